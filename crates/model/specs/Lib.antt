@@ -1,0 +1,13 @@
+pub mod World
+pub mod Answers
+pub mod Capabilities
+pub mod Shape
+pub mod Registers
+pub mod Vectors
+pub mod Packets
+pub mod Release
+pub mod Start
+pub mod Sound
+pub mod Image
+pub mod Calls
+pub mod Cases

@@ -1,0 +1,54 @@
+-- Document 01, "Packets", as bytes. Assumes nothing.
+use mathlib.Core.Bool.{Bool, true, false, cond}
+use mathlib.Core.List.{List, [], _∷_, _++_}
+use Prim.Native.Nat.{ℕ, _+_, _*_, _/_}
+use lib.Dec.{eqb}
+use lib.ListN.{replicate}
+use Rattle.words.specs.Bytes.{word16, word32, bytesOf, bytesHigh}
+use Rattle.model.specs.declared.Form.{Form}
+use Rattle.model.specs.declared.Shape.{Shape}
+use Rattle.model.specs.declared.Mode.{Mode}
+use Rattle.model.specs.declared.Mode.the-variants.{Pin, Msi, Msix}
+use Rattle.model.specs.Shape.{formOf}
+use Rattle.model.specs.World.{Registers}
+use Rattle.model.specs.Vectors.{granted}
+
+-- a memory write of one word: three header words with upper address 0, else four
+unfoldable pub message : (requester upper address value : ℕ) → List ℕ
+message requester upper address value =
+    (cond (eqb upper 0) 0x40 0x60 ∷ 0 ∷ 0 ∷ 1 ∷ [])
+    ++ bytesHigh 2 requester
+    ++ (0 ∷ 0x0f ∷ [])
+    ++ cond (eqb upper 0) [] (bytesHigh 4 upper)
+    ++ bytesHigh 4 address
+    ++ bytesOf 4 value
+
+-- the wire's packet: Assert_INTx, or Deassert_INTx
+unfoldable pub wireMessage : (requester pin : ℕ) → (active : Bool) → List ℕ
+wireMessage requester pin active =
+    (0x34 ∷ 0 ∷ 0 ∷ 0 ∷ [])
+    ++ bytesHigh 2 requester
+    ++ (0 ∷ (cond active 0x1f 0x23 + pin) ∷ [])
+    ++ replicate 8 0
+
+-- ---- MSI's registers, by the form
+
+unfoldable pub msiAddress : Shape → Registers → ℕ
+msiAddress s r = word32 (r .config) (s .msi .at + 4)
+
+unfoldable pub msiUpper : Shape → Registers → ℕ
+msiUpper s r = cond (s .msi .wide) (word32 (r .config) (s .msi .at + 8)) 0
+
+-- the 16-bit data register
+unfoldable pub msiData : Shape → Registers → ℕ
+msiData s r = word16 (r .config) (s .msi .at + formOf s .message)
+
+-- ---- the message of vector v, by the registers as they are
+
+-- MSI: the low log2(granted) bits of the data register are replaced by v. MSI-X: the entry's words
+unfoldable pub messageOf : Mode → Shape → (requester : ℕ) → Registers → ℕ → List ℕ
+messageOf Pin s requester r v = []
+messageOf Msi s requester r v =
+    message requester (msiUpper s r) (msiAddress s r) (msiData s r / granted s r * granted s r + v)
+messageOf Msix s requester r v =
+    message requester (word32 (r .table) (16 * v + 4)) (word32 (r .table) (16 * v)) (word32 (r .table) (16 * v + 8))

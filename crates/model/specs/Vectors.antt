@@ -1,0 +1,81 @@
+-- Document 01, "Who is open": the mechanism in force, granted, open, and the waiting bits. Assumes nothing.
+use mathlib.Core.Bool.{Bool, true, false, not, cond, _&&_}
+use mathlib.Core.List.{List, [], _∷_}
+use Prim.Native.Nat.{ℕ, _+_, _*_, _/_, _%_, _^_, min}
+use lib.Dec.{ltb}
+use lib.ListN.{set}
+use Rattle.words.specs.Lists.{keep, count}
+use Rattle.words.specs.Bits.{bit, field}
+use Rattle.words.specs.Bytes.{byte, word16, word32}
+use Rattle.model.specs.declared.Form.{Form}
+use Rattle.model.specs.declared.Shape.{Shape}
+use Rattle.model.specs.declared.Mode.{Mode}
+use Rattle.model.specs.declared.Mode.the-variants.{Pin, Msi, Msix}
+use Rattle.model.specs.Shape.{formOf, msiPresent, msixPresent, msiVectors}
+use Rattle.model.specs.World.{Endpoint, Registers, registers, withWaiting}
+
+-- ---- what the registers say
+
+unfoldable pub command : Registers → ℕ
+command r = word16 (r .config) 4
+
+unfoldable pub msiControl : Shape → Registers → ℕ
+msiControl s r = word16 (r .config) (s .msi .at + 2)
+
+unfoldable pub msixControl : Shape → Registers → ℕ
+msixControl s r = word16 (r .config) (s .msix .at + 2)
+
+-- MSI-X if present and its bit 15 is set; else MSI if present and bit 0 is set; else the pin
+unfoldable pub modeOf : Shape → Registers → Mode
+modeOf s r =
+    cond (msixPresent s && bit (msixControl s r) 15) Msix
+    (cond (msiPresent s && bit (msiControl s r) 0) Msi Pin)
+
+-- 2^(the smaller of Enable and Capable)
+unfoldable pub granted : Shape → Registers → ℕ
+granted s r = 2 ^ min (field (msiControl s r) 4 3) (s .msi .capable)
+
+-- the vector's own mask bit; without masks it is 0
+unfoldable pub masked : Mode → Shape → Registers → ℕ → Bool
+masked Pin s r v = false
+masked Msi s r v = s .msi .masks && bit (word32 (r .config) (s .msi .at + formOf s .mask)) v
+masked Msix s r v = bit (byte (r .table) (16 * v + 12)) 0
+
+-- MSI: below granted. MSI-X: Function Mask 0
+unfoldable pub enabled : Mode → Shape → Registers → ℕ → Bool
+enabled Pin s r v = false
+enabled Msi s r v = ltb v (granted s r)
+enabled Msix s r v = ltb v (s .msix .vectors) && not (bit (msixControl s r) 14)
+
+-- vector v of the mechanism m is open, where m is in force
+unfoldable pub isOpen : Mode → Shape → Registers → ℕ → Bool
+isOpen m s r v = enabled m s r v && not (masked m s r v) && bit (command r) 2
+
+-- the vector that an event means
+unfoldable pub vectorOf : Mode → Shape → Registers → ℕ → ℕ
+vectorOf Pin s r e = e
+vectorOf Msi s r e = e % granted s r
+vectorOf Msix s r e = e
+
+-- ---- waiting bits: MSI's in the card's state, MSI-X's in the pending array
+
+unfoldable pub waits : Mode → Endpoint → ℕ → Bool
+waits Pin u v = false
+waits Msi u v = bit (u .function .waiting) v
+waits Msix u v = bit (byte (u .pending) (v / 8)) (v % 8)
+
+-- the waiting bit of vector v set or cleared: `change` is setBit or clearBit
+unfoldable pub changeWaiting : (change : ℕ → ℕ → ℕ) → Mode → Endpoint → ℕ → Endpoint
+changeWaiting change Pin u v = u
+changeWaiting change Msi u v = withWaiting u (change (u .function .waiting) v) (u .pending)
+changeWaiting change Msix u v = withWaiting u (u .function .waiting) (set (u .pending) (v / 8) (change (byte (u .pending) (v / 8)) (v % 8)))
+
+-- N, or 2^Capable
+unfoldable pub vectorCount : Mode → Shape → ℕ
+vectorCount Pin s = 0
+vectorCount Msi s = msiVectors s
+vectorCount Msix s = s .msix .vectors
+
+-- the open waiting vectors of the mechanism m, the lowest first
+unfoldable pub owed : Mode → Shape → Endpoint → List ℕ
+owed m s u = keep (λ v. isOpen m s (registers u) v && waits m u v) (count 0 (vectorCount m s))
