@@ -3,10 +3,11 @@ use mathlib.Core.Bool.{Bool, true, false, not, cond, _||_}
 use mathlib.Core.List.{List, [], _∷_, _++_}
 use Prim.Native.Nat.{ℕ, _%_}
 use lib.Dec.{ltb, leb, eqb}
-use lib.ListN.{length, drop}
+use lib.ListN.{length}
 use Rattle.words.specs.Lists.{firstOf}
 use Rattle.words.specs.Bits.{bit}
 use Rattle.words.specs.Bytes.{bytesOf, number}
+use Rattle.words.specs.Writers.{over}
 use Rattle.model.specs.declared.Function.{Function}
 use Rattle.model.specs.declared.Shape.{Shape}
 use Rattle.model.specs.declared.Answer.{Answer}
@@ -43,7 +44,7 @@ refused w n out = record { world = w; answer = Refused n; count = 0; output = ou
 
 -- the bytes stand at the start of the output, and those behind them keep their contents
 unfoldable pub accepted : World → Answer → List ℕ → List ℕ → Outcome
-accepted w a bytes out = record { world = w; answer = a; count = length bytes; output = bytes ++ drop (length bytes) out }
+accepted w a bytes out = record { world = w; answer = a; count = length bytes; output = over bytes out }
 
 -- ---- "Refusals of a running card": the rows between 1 and 6
 
