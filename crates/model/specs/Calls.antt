@@ -5,7 +5,6 @@ use Prim.Native.Nat.{ℕ, _%_}
 use lib.Dec.{ltb, leb, eqb}
 use lib.ListN.{length}
 use Rattle.words.specs.Lists.{firstOf}
-use Rattle.words.specs.Bits.{bit}
 use Rattle.words.specs.Bytes.{bytesOf, number}
 use Rattle.words.specs.Writers.{over}
 use Rattle.model.specs.declared.Function.{Function}
@@ -14,7 +13,7 @@ use Rattle.model.specs.declared.Answer.{Answer}
 use Rattle.model.specs.declared.Answer.the-variants.{Refused, Done, Value}
 use Rattle.model.specs.World.{World, Endpoint, registers, zeroFunction, endpointOf, withRegisters, withLine}
 use Rattle.model.specs.Registers.{shown, barByte, configWritten, barWritten, inTable, inPending}
-use Rattle.model.specs.Vectors.{command}
+use Rattle.model.specs.Vectors.{commandBit}
 use Rattle.model.specs.Release.{Raised, raisedBy, settled, settleBytes, wireChange}
 use Rattle.model.specs.Start.{Given, startRefusal, started}
 use Rattle.model.specs.Sound.{sound, shape}
@@ -58,7 +57,7 @@ badBar s b o n = ltb 5 b || not (eqb n 4 || eqb n 8) || not (eqb (o % n) 0) || n
 
 -- 5: Command bit 1 clear
 unfoldable pub noMemory : Endpoint → Bool
-noMemory u = not (bit (command (registers u)) 1)
+noMemory u = not (commandBit (registers u) 1)
 
 unfoldable pub rows : Endpoint → Call → List (ℕ × Bool)
 rows u (configRead o n) = (3, badConfig o n) ∷ []

@@ -4,7 +4,7 @@ use mathlib.Core.List.{List, [], _∷_, _++_}
 use Prim.Native.Nat.{ℕ}
 use lib.Dec.{eqb}
 use Rattle.words.specs.Lists.{join}
-use Rattle.words.specs.Bits.{bit, clearBit, setBit}
+use Rattle.words.specs.Bits.{clearBit, setBit}
 use Rattle.words.specs.Bytes.{byte}
 use Rattle.model.specs.declared.Shape.{Shape}
 use Rattle.model.specs.declared.Mode.{Mode}
@@ -12,7 +12,7 @@ use Rattle.model.specs.declared.Mode.the-variants.{Pin, Msi, Msix}
 use Rattle.model.specs.declared.Answer.{Answer}
 use Rattle.model.specs.declared.Answer.the-variants.{Sent, Held, Merged, Lost}
 use Rattle.model.specs.World.{World, Endpoint, Registers, registers}
-use Rattle.model.specs.Vectors.{command, modeOf, owed, isOpen, waits, changeWaiting, vectorOf}
+use Rattle.model.specs.Vectors.{commandBit, modeOf, owed, isOpen, waits, changeWaiting, vectorOf}
 use Rattle.model.specs.Packets.{messageOf, wireMessage}
 
 -- ---- the wire
@@ -28,7 +28,7 @@ isPin Msix = false
 
 -- the line is high, the pin is in force, pin number is not 0 and Command bit 10 is 0
 unfoldable pub wireDue : Shape → (line : Bool) → Registers → Bool
-wireDue s line r = line && isPin (modeOf s r) && not (eqb (pinNumber r) 0) && not (bit (command r) 10)
+wireDue s line r = line && isPin (modeOf s r) && not (eqb (pinNumber r) 0) && not (commandBit r 10)
 
 -- the packet of a change of level
 unfoldable pub wireChange : (requester : ℕ) → Registers → (before after : Bool) → List ℕ

@@ -3,8 +3,8 @@ use mathlib.Core.Bool.{Bool, true, false, not, cond}
 use mathlib.Core.List.{List, [], _∷_}
 use Prim.Native.Nat.{ℕ, _+_, _*_, _/_, _%_, _^_}
 use lib.Dec.{eqb}
-use Rattle.words.specs.Bits.{bit, field}
-use Rattle.words.specs.Bytes.{byte, word16, word32}
+use Rattle.words.specs.Bits.{field}
+use Rattle.words.specs.Bytes.{byte, bitAt, word32}
 use Rattle.model.specs.Capabilities.{capabilities, listed, withId}
 use Rattle.model.specs.declared.Form.{Form}
 use Rattle.model.specs.declared.Region.{Region}
@@ -28,20 +28,18 @@ forms true true = row 0x0c 0x10 0x14 24
 unfoldable pub formOf : Shape → Form
 formOf s = forms (s .msi .masks) (s .msi .wide)
 
--- ---- the capability at place a
+-- ---- the capability at place a: its control register is at a + 2
 
 unfoldable pub msiAt : List ℕ → ℕ → MsiShape
-msiAt c a =
-    let control : ℕ = word16 c (a + 2) in
-    record { at = a; capable = field control 1 3; wide = bit control 7; masks = bit control 8 }
+msiAt c a = record { at = a; capable = field (byte c (a + 2)) 1 3; wide = bitAt c (a + 2) 7; masks = bitAt c (a + 2) 8 }
 
 -- a BIR and the offset above it
 unfoldable pub regionAt : List ℕ → ℕ → Region
 regionAt c a = record { bar = word32 c a % 8; at = word32 c a / 8 * 8 }
 
--- N is Table Size + 1
+-- N is Table Size + 1, control bits 10:0
 unfoldable pub msixAt : List ℕ → ℕ → MsixShape
-msixAt c a = record { at = a; vectors = field (word16 c (a + 2)) 0 11 + 1; table = regionAt c (a + 4); pending = regionAt c (a + 8) }
+msixAt c a = record { at = a; vectors = byte c (a + 2) + 256 * field (byte c (a + 3)) 0 3 + 1; table = regionAt c (a + 4); pending = regionAt c (a + 8) }
 
 unfoldable pub noMsi : MsiShape
 noMsi = record { at = 0; capable = 0; wide = false; masks = false }

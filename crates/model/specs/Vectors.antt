@@ -6,7 +6,7 @@ use lib.Dec.{ltb}
 use lib.ListN.{set}
 use Rattle.words.specs.Lists.{keep, count}
 use Rattle.words.specs.Bits.{bit, field}
-use Rattle.words.specs.Bytes.{byte, word16, word32}
+use Rattle.words.specs.Bytes.{byte, bitAt}
 use Rattle.model.specs.declared.Form.{Form}
 use Rattle.model.specs.declared.Shape.{Shape}
 use Rattle.model.specs.declared.Mode.{Mode}
@@ -16,40 +16,44 @@ use Rattle.model.specs.World.{Endpoint, Registers, registers, withWaitin
 
 -- ---- what the registers say
 
-unfoldable pub command : Registers → ℕ
-command r = word16 (r .config) 4
+unfoldable pub commandBit : Registers → ℕ → Bool
+commandBit r k = bitAt (r .config) 4 k
 
-unfoldable pub msiControl : Shape → Registers → ℕ
-msiControl s r = word16 (r .config) (s .msi .at + 2)
+unfoldable pub msiControlBit : Shape → Registers → ℕ → Bool
+msiControlBit s r k = bitAt (r .config) (s .msi .at + 2) k
 
-unfoldable pub msixControl : Shape → Registers → ℕ
-msixControl s r = word16 (r .config) (s .msix .at + 2)
+unfoldable pub msixControlBit : Shape → Registers → ℕ → Bool
+msixControlBit s r k = bitAt (r .config) (s .msix .at + 2) k
+
+-- MSI control bits 6:4
+unfoldable pub enableField : Shape → Registers → ℕ
+enableField s r = field (byte (r .config) (s .msi .at + 2)) 4 3
 
 -- MSI-X if present and its bit 15 is set; else MSI if present and bit 0 is set; else the pin
 unfoldable pub modeOf : Shape → Registers → Mode
 modeOf s r =
-    cond (msixPresent s && bit (msixControl s r) 15) Msix
-    (cond (msiPresent s && bit (msiControl s r) 0) Msi Pin)
+    cond (msixPresent s && msixControlBit s r 15) Msix
+    (cond (msiPresent s && msiControlBit s r 0) Msi Pin)
 
 -- 2^(the smaller of Enable and Capable)
 unfoldable pub granted : Shape → Registers → ℕ
-granted s r = 2 ^ min (field (msiControl s r) 4 3) (s .msi .capable)
+granted s r = 2 ^ min (enableField s r) (s .msi .capable)
 
 -- the vector's own mask bit; without masks it is 0
 unfoldable pub masked : Mode → Shape → Registers → ℕ → Bool
 masked Pin s r v = false
-masked Msi s r v = s .msi .masks && bit (word32 (r .config) (s .msi .at + formOf s .mask)) v
-masked Msix s r v = bit (byte (r .table) (16 * v + 12)) 0
+masked Msi s r v = s .msi .masks && bitAt (r .config) (s .msi .at + formOf s .mask) v
+masked Msix s r v = bitAt (r .table) (16 * v + 12) 0
 
 -- MSI: below granted. MSI-X: Function Mask 0
 unfoldable pub enabled : Mode → Shape → Registers → ℕ → Bool
 enabled Pin s r v = false
 enabled Msi s r v = ltb v (granted s r)
-enabled Msix s r v = ltb v (s .msix .vectors) && not (bit (msixControl s r) 14)
+enabled Msix s r v = ltb v (s .msix .vectors) && not (msixControlBit s r 14)
 
 -- vector v of the mechanism m is open, where m is in force
 unfoldable pub isOpen : Mode → Shape → Registers → ℕ → Bool
-isOpen m s r v = enabled m s r v && not (masked m s r v) && bit (command r) 2
+isOpen m s r v = enabled m s r v && not (masked m s r v) && commandBit r 2
 
 -- the vector that an event means
 unfoldable pub vectorOf : Mode → Shape → Registers → ℕ → ℕ

@@ -1,11 +1,17 @@
 -- Numbers in lists of bytes. Assumes nothing.
+use mathlib.Core.Bool.{Bool}
 use mathlib.Core.List.{List, [], _∷_, reverse}
 use Prim.Native.Nat.{ℕ, zero, suc, _+_, _*_, _/_, _%_}
 use lib.ListN.{take, drop, getD}
+use Rattle.words.specs.Bits.{bit}
 
 -- byte i of a list, 0 past its end
 abbrev pub byte : List ℕ → ℕ → ℕ
 byte l i = getD l i 0
+
+-- bit k of the register at place i, which has its lowest byte first
+unfoldable pub bitAt : List ℕ → ℕ → ℕ → Bool
+bitAt l i k = bit (byte l (i + k / 8)) (k % 8)
 
 -- the number whose n bytes are f i, f (i + 1), .., the lowest first
 unfoldable pub number : (ℕ → ℕ) → ℕ → ℕ → ℕ
