@@ -1,1 +1,4 @@
 pub mod Writers
+pub mod BitLaws
+pub mod BoolLaws
+pub mod ListLaws

@@ -1,0 +1,73 @@
+-- Tests taken apart. Assumes nothing.
+use mathlib.Core.Path.{_≡_, refl, sym, ap, ap₂, _∙_, subst}
+use mathlib.Core.Bool.{Bool, true, false, not, cond, _&&_, _||_, true≢false, false≢true, Bool·beq}
+use mathlib.Core.List.{List, [], _∷_, _++_}
+use Prim.Native.Nat.{ℕ, zero, suc, _≤_, _<_}
+use lib.Dec.{T, ltb, leb, eqb}
+use borrow.Author.Tests.{eqb-true, eq-eqb, ltb-true, le-ltb}
+use Rattle.words.specs.Lists.{firstOf}
+
+pub both : (a b : Bool) → (a && b) ≡ true → (a ≡ true) × (b ≡ true)
+both true b e = (refl, e)
+both false b e = absurd (false≢true e)
+
+pub neither : (a b : Bool) → (a || b) ≡ false → (a ≡ false) × (b ≡ false)
+neither true b e = absurd (true≢false e)
+neither false b e = (refl, e)
+
+pub and-intro : (a b : Bool) → a ≡ true → b ≡ true → (a && b) ≡ true
+and-intro a b p q = rw p q
+
+-- the second fails where the first holds
+pub second-false : (a b : Bool) → a ≡ true → (a && b) ≡ false → b ≡ false
+second-false a b h e = rw h at e
+
+pub beq-true : (a b : Bool) → Bool·beq a b ≡ true → a ≡ b
+beq-true true true e = refl
+beq-true true false e = absurd (false≢true e)
+beq-true false true e = absurd (false≢true e)
+beq-true false false e = refl
+
+pub beq-refl : (a : Bool) → Bool·beq a a ≡ true
+beq-refl true = refl
+beq-refl false = refl
+
+-- two tests that say the same
+pub same-test : (a b : Bool) → (a ≡ true → b ≡ true) → (b ≡ true → a ≡ true) → a ≡ b
+same-test true b f g = sym (f refl)
+same-test false true f g = g refl
+same-test false false f g = refl
+
+-- a test goes one way or the other
+pub by-test : {P : Type 0} (b : Bool) → (b ≡ true → P) → (b ≡ false → P) → P
+by-test true f g = f refl
+by-test false f g = g refl
+
+pub cond-elim : {A : Type 0} (P : A → Type 0) (b : Bool) {x y : A} → (b ≡ true → P x) → (b ≡ false → P y) → P (cond b x y)
+cond-elim P true f g = f refl
+cond-elim P false f g = g refl
+
+pub of-T : (b : Bool) → T b → b ≡ true
+of-T true t = refl
+of-T false t = absurd t
+
+pub to-T : (b : Bool) → b ≡ true → T b
+to-T b e = subst T (sym e) tt
+
+-- ---- rows of refusals
+
+-- no row applies: read off one row after the other
+pub passed : (n : ℕ) {t : Bool} (rs : List (ℕ × Bool)) → eqb n 0 ≡ false → firstOf ((n, t) ∷ rs) ≡ 0 → (t ≡ false) × (firstOf rs ≡ 0)
+unfolding firstOf
+passed n {t = true} rs p e = absurd (false≢true (sym p ∙ eq-eqb n 0 e))
+passed n {t = false} rs p e = (refl, e)
+
+-- a row that does not apply
+pub row-passes : (n : ℕ) {t : Bool} (rs : List (ℕ × Bool)) → t ≡ false → firstOf ((n, t) ∷ rs) ≡ firstOf rs
+unfolding firstOf
+row-passes n rs e = rw e
+
+-- a row that applies
+pub row-refuses : (n : ℕ) {t : Bool} (rs : List (ℕ × Bool)) → t ≡ true → firstOf ((n, t) ∷ rs) ≡ n
+unfolding firstOf
+row-refuses n rs e = rw e

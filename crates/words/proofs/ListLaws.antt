@@ -1,0 +1,243 @@
+-- Laws of the small functions on lists. Assumes nothing.
+use mathlib.Core.Path.{_≡_, refl, sym, ap, ap₂, _∙_, subst}
+use mathlib.Core.Bool.{Bool, true, false, not, cond, _&&_, _||_, true≢false, false≢true, and-false, and-true}
+use mathlib.Core.List.{List, [], _∷_, _++_, append-assoc}
+use Prim.Native.Nat.{ℕ, zero, suc, _+_, _-_, _*_, _≤_, _<_}
+use native.Mathlib.Nat.{zero-add, mul-suc}
+use native.Mathlib.Omega.{arith}
+use lib.Dec.{T, ltb, leb, eqb, eqb-refl}
+use lib.ListN.{length, getD, length-append}
+use borrow.Author.Tests.{eq-eqb, ne-eqb, eqb-true, eqb-false, lt-ltb, le-leb, ltb-true, leb-true}
+use Rattle.words.specs.Lists.{count, keep, all, member, join, eachAt, allAt, same, within}
+use Rattle.words.specs.Bytes.{byte}
+use Rattle.words.proofs.BoolLaws.{both, and-intro, by-test}
+
+-- ---- within
+
+pub within-true : (lo n k : ℕ) → within lo n k ≡ true → (lo ≤ k) × (k < lo + n)
+unfolding within
+within-true lo n k e =
+    let p = both (leb lo k) (ltb k (lo + n)) e in
+    (leb-true lo k (p .0), ltb-true k (lo + n) (p .1))
+
+pub true-within : (lo n k : ℕ) → lo ≤ k → k < lo + n → within lo n k ≡ true
+unfolding within
+true-within lo n k h j = and-intro (leb lo k) (ltb k (lo + n)) (le-leb lo k h) (lt-ltb k (lo + n) j)
+
+-- ---- member
+
+member-here : (x y : ℕ) (l : List ℕ) → x ≡ y → member x (y ∷ l) ≡ true
+unfolding member
+member-here x y l e = rw (eq-eqb x y e)
+
+pub member-head : (x : ℕ) (l : List ℕ) → member x (x ∷ l) ≡ true
+member-head x l = member-here x x l refl
+
+or-right : (a b : Bool) → b ≡ true → (a || b) ≡ true
+or-right true b e = refl
+or-right false b e = e
+
+pub member-tail : (x y : ℕ) (l : List ℕ) → member x l ≡ true → member x (y ∷ l) ≡ true
+unfolding member
+member-tail x y l e = or-right (eqb x y) (member x l) e
+
+-- each member has a property
+abbrev pub Holds : (ℕ → Type 0) → List ℕ → Type 0
+Holds P l = (x : ℕ) → member x l ≡ true → P x
+
+pub holds-nil : (P : ℕ → Type 0) → Holds P []
+unfolding member
+holds-nil P x m = absurd (false≢true m)
+
+pub holds-cons : (P : ℕ → Type 0) (a : ℕ) (l : List ℕ) → P a → Holds P l → Holds P (a ∷ l)
+unfolding member
+holds-cons P a l p h x m = go (eqb x a) refl m
+  where
+    go : (b : Bool) → eqb x a ≡ b → (b || member x l) ≡ true → P x
+    go true e m = subst P (sym (eqb-true x a e)) p
+    go false e m = h x m
+
+pub holds-head : (P : ℕ → Type 0) (a : ℕ) (l : List ℕ) → Holds P (a ∷ l) → P a
+holds-head P a l h = h a (member-head a l)
+
+pub holds-tail : (P : ℕ → Type 0) (a : ℕ) (l : List ℕ) → Holds P (a ∷ l) → Holds P l
+holds-tail P a l h x m = h x (member-tail x a l m)
+
+-- ---- all
+
+pub all-holds : (f : ℕ → Bool) (l : List ℕ) → all f l ≡ true → Holds (λ x. f x ≡ true) l
+unfolding all
+all-holds f [] e = holds-nil (λ x. f x ≡ true)
+all-holds f (y ∷ l) e =
+    let p = both (f y) (all f l) e in
+    holds-cons (λ x. f x ≡ true) y l (p .0) (all-holds f l (p .1))
+
+pub holds-all : (f : ℕ → Bool) (l : List ℕ) → Holds (λ x. f x ≡ true) l → all f l ≡ true
+unfolding all
+holds-all f [] h = refl
+holds-all f (y ∷ l) h =
+    and-intro (f y) (all f l) (holds-head (λ x. f x ≡ true) y l h) (holds-all f l (holds-tail (λ x. f x ≡ true) y l h))
+
+-- ---- count
+
+pub length-count : (i n : ℕ) → length (count i n) ≡ n
+unfolding count
+length-count i zero = refl
+length-count i (suc n) = ap suc (length-count (suc i) n)
+
+pub member-count : (i n : ℕ) → Holds (λ x. (i ≤ x) × (x < i + n)) (count i n)
+unfolding count
+member-count i zero = holds-nil (λ x. (i ≤ x) × (x < i + 0))
+member-count i (suc n) =
+    holds-cons (λ x. (i ≤ x) × (x < i + suc n)) i (count (suc i) n) (omega arith, omega arith)
+    λ x m. let p = member-count (suc i) n x m in (omega arith, omega arith)
+
+pub count-member : (i n x : ℕ) → i ≤ x → x < i + n → member x (count i n) ≡ true
+unfolding count
+count-member i zero x h j = absurd (omega arith)
+count-member i (suc n) x h j =
+    by-test (eqb x i) (λ e. member-here x i (count (suc i) n) (eqb-true x i e))
+    (λ e. let ne : x ≡ i → ⊥ = eqb-false x i e in member-tail x i (count (suc i) n) (count-member (suc i) n x (omega (arith, ne)) (omega arith)))
+
+-- a test that passes at each number below n
+pub all-below : (f : ℕ → Bool) (n k : ℕ) → all f (count 0 n) ≡ true → k < n → f k ≡ true
+all-below f n k e h = all-holds f (count 0 n) e k (count-member 0 n k (omega arith) (omega arith))
+
+-- ---- keep
+
+pub member-keep : (f : ℕ → Bool) (l : List ℕ) (x : ℕ) → member x (keep f l) ≡ (f x && member x l)
+unfolding member keep
+member-keep f [] x = sym (and-false (f x))
+member-keep f (y ∷ l) x = go (f y) (eqb x y) refl refl (member-keep f l x)
+  where
+    go : (a b : Bool) → f y ≡ a → eqb x y ≡ b → member x (keep f l) ≡ (f x && member x l)
+        → member x (cond a (y ∷ keep f l) (keep f l)) ≡ (f x && (b || member x l))
+    go true true p q r =
+        let e : x ≡ y = eqb-true x y q in
+        ap (λ (t : Bool). t || member x (keep f l)) q ∙ sym (ap (λ (t : Bool). t && true) (ap f e ∙ p))
+    go true false p q r = ap (λ (t : Bool). t || member x (keep f l)) q ∙ r
+    go false true p q r =
+        let e : f x ≡ false = ap f (eqb-true x y q) ∙ p in
+        r ∙ ap (λ (t : Bool). t && member x l) e ∙ sym (ap (λ (t : Bool). t && true) e)
+    go false false p q r = r
+
+pub keep-same : (f g : ℕ → Bool) (l : List ℕ) → Holds (λ a. f a ≡ g a) l → keep f l ≡ keep g l
+unfolding keep
+keep-same f g [] h = refl
+keep-same f g (x ∷ l) h =
+    let e : f x ≡ g x = holds-head (λ a. f a ≡ g a) x l h in
+    let r : keep f l ≡ keep g l = keep-same f g l (holds-tail (λ a. f a ≡ g a) x l h) in
+    rw (e, r)
+
+pub keep-none : (f : ℕ → Bool) (l : List ℕ) → Holds (λ a. f a ≡ false) l → keep f l ≡ []
+unfolding keep
+keep-none f [] h = refl
+keep-none f (x ∷ l) h =
+    let e : f x ≡ false = holds-head (λ a. f a ≡ false) x l h in
+    let r : keep f l ≡ [] = keep-none f l (holds-tail (λ a. f a ≡ false) x l h) in
+    rw (e, r)
+
+-- nothing kept: none passes
+pub keep-nil : (f : ℕ → Bool) (l : List ℕ) → keep f l ≡ [] → Holds (λ a. f a ≡ false) l
+keep-nil f l e x m = go (f x) refl
+  where
+    go : (b : Bool) → f x ≡ b → f x ≡ false
+    go false p = p
+    go true p = holds-nil (λ y. f x ≡ false) x (sym (ap (member x) e) ∙ member-keep f l x ∙ and-intro (f x) (member x l) p m)
+
+pub keep-length : (f : ℕ → Bool) (l : List ℕ) → length (keep f l) ≤ length l
+unfolding keep
+keep-length f [] = omega arith
+keep-length f (x ∷ l) = go (f x) (keep-length f l)
+  where
+    go : (b : Bool) → length (keep f l) ≤ length l → length (cond b (x ∷ keep f l) (keep f l)) ≤ suc (length l)
+    go true h = omega arith
+    go false h = omega arith
+
+pub keep-append : (f : ℕ → Bool) (l r : List ℕ) → keep f (l ++ r) ≡ keep f l ++ keep f r
+unfolding keep
+keep-append f [] r = refl
+keep-append f (x ∷ l) r = go (f x) (keep-append f l r)
+  where
+    go : (b : Bool) → keep f (l ++ r) ≡ keep f l ++ keep f r → cond b (x ∷ keep f (l ++ r)) (keep f (l ++ r)) ≡ cond b (x ∷ keep f l) (keep f l) ++ keep f r
+    go true h = ap (λ (m : List ℕ). x ∷ m) h
+    go false h = h
+
+pub count-append : (i m n : ℕ) → count i (m + n) ≡ count i m ++ count (i + m) n
+unfolding count
+count-append i zero n = let e : 0 + n ≡ n = omega arith in let z : i + 0 ≡ i = omega arith in rw (e, z)
+count-append i (suc m) n =
+    let e : suc m + n ≡ suc (m + n) = omega arith in
+    let z : i + suc m ≡ suc i + m = omega arith in
+    rw (e, z) (ap (λ (l : List ℕ). i ∷ l) (count-append (suc i) m n))
+
+-- ---- join
+
+-- each part has at most k elements
+pub join-length : (f : ℕ → List ℕ) (k : ℕ) (l : List ℕ) → ((x : ℕ) → length (f x) ≤ k) → length (join f l) ≤ k * length l
+unfolding join
+join-length f k [] h = omega arith
+join-length f k (x ∷ l) h =
+    let a : length (f x) ≤ k = h x in
+    let b : length (join f l) ≤ k * length l = join-length f k l h in
+    let c : k * suc (length l) ≡ k * length l + k = mul-suc k (length l) in
+    rw length-append (omega arith)
+
+pub join-append : (f : ℕ → List ℕ) (l r : List ℕ) → join f (l ++ r) ≡ join f l ++ join f r
+unfolding join
+join-append f [] r = refl
+join-append f (x ∷ l) r = ap (λ (m : List ℕ). f x ++ m) (join-append f l r) ∙ sym (append-assoc (f x) (join f l) (join f r))
+
+-- ---- eachAt, allAt
+
+pub length-each : (f : ℕ → ℕ → ℕ) (i : ℕ) (l : List ℕ) → length (eachAt f i l) ≡ length l
+unfolding eachAt
+length-each f i [] = refl
+length-each f i (b ∷ l) = ap suc (length-each f (suc i) l)
+
+each-from : (f : ℕ → ℕ → ℕ) (i : ℕ) (l : List ℕ) (k : ℕ) → k < length l → byte (eachAt f i l) k ≡ f (i + k) (byte l k)
+unfolding eachAt
+each-from f i [] k h = absurd (omega arith)
+each-from f i (b ∷ l) zero h = let e : i + 0 ≡ i = omega arith in rw e
+each-from f i (b ∷ l) (suc k) h = let e : i + suc k ≡ suc i + k = omega arith in rw e (each-from f (suc i) l k (omega arith))
+
+pub byte-each : (f : ℕ → ℕ → ℕ) (l : List ℕ) (k : ℕ) → k < length l → byte (eachAt f 0 l) k ≡ f k (byte l k)
+byte-each f l k h = each-from f 0 l k h ∙ ap (λ (i : ℕ). f i (byte l k)) (zero-add k)
+
+all-from : (f : ℕ → ℕ → Bool) (i : ℕ) (l : List ℕ) (k : ℕ) → allAt f i l ≡ true → k < length l → f (i + k) (byte l k) ≡ true
+unfolding allAt
+all-from f i [] k e h = absurd (omega arith)
+all-from f i (b ∷ l) zero e h = let z : i + 0 ≡ i = omega arith in rw z (both (f i b) (allAt f (suc i) l) e .0)
+all-from f i (b ∷ l) (suc k) e h =
+    let z : i + suc k ≡ suc i + k = omega arith in
+    rw z (all-from f (suc i) l k (both (f i b) (allAt f (suc i) l) e .1) (omega arith))
+
+pub all-at : (f : ℕ → ℕ → Bool) (l : List ℕ) (k : ℕ) → allAt f 0 l ≡ true → k < length l → f k (byte l k) ≡ true
+all-at f l k e h = ap (λ (i : ℕ). f i (byte l k)) (sym (zero-add k)) ∙ all-from f 0 l k e h
+
+from-all : (f : ℕ → ℕ → Bool) (i : ℕ) (l : List ℕ) → ((k : ℕ) → k < length l → f (i + k) (byte l k) ≡ true) → allAt f i l ≡ true
+unfolding allAt
+from-all f i [] h = refl
+from-all f i (b ∷ l) h =
+    and-intro (f i b) (allAt f (suc i) l)
+    (let z : i + 0 ≡ i = omega arith in rw z at (h 0 (omega arith)))
+    (from-all f (suc i) l (λ k j. let z : i + suc k ≡ suc i + k = omega arith in rw z at (h (suc k) (omega arith))))
+
+pub at-all : (f : ℕ → ℕ → Bool) (l : List ℕ) → ((k : ℕ) → k < length l → f k (byte l k) ≡ true) → allAt f 0 l ≡ true
+at-all f l h = from-all f 0 l (λ k j. ap (λ (i : ℕ). f i (byte l k)) (zero-add k) ∙ h k j)
+
+-- ---- same
+
+pub same-true : (l m : List ℕ) → same l m ≡ true → l ≡ m
+unfolding same
+same-true [] [] e = refl
+same-true [] (y ∷ m) e = absurd (false≢true e)
+same-true (x ∷ l) [] e = absurd (false≢true e)
+same-true (x ∷ l) (y ∷ m) e =
+    let p = both (eqb x y) (same l m) e in
+    ap₂ (λ (a : ℕ) (r : List ℕ). a ∷ r) (eqb-true x y (p .0)) (same-true l m (p .1))
+
+pub same-refl : (l : List ℕ) → same l l ≡ true
+unfolding same
+same-refl [] = refl
+same-refl (x ∷ l) = and-intro (eqb x x) (same l l) (eq-eqb x x refl) (same-refl l)
