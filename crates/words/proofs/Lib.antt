@@ -2,3 +2,4 @@ pub mod Writers
 pub mod BitLaws
 pub mod BoolLaws
 pub mod ListLaws
+pub mod ByteLaws
