@@ -1,3 +1,6 @@
 pub mod Starred
 pub mod WriteLaws
 pub mod CapabilityLaws
+pub mod PlaceLaws
+pub mod ShapeLaws
+pub mod FixedLaws
