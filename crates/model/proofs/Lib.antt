@@ -6,3 +6,5 @@ pub mod ShapeLaws
 pub mod FixedLaws
 pub mod WaitingLaws
 pub mod SweepLaws
+pub mod SoundLaws
+pub mod ZeroLaws
