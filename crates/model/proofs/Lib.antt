@@ -8,3 +8,5 @@ pub mod WaitingLaws
 pub mod SweepLaws
 pub mod SoundLaws
 pub mod ZeroLaws
+pub mod TableLaws
+pub mod StartLaws
