@@ -10,3 +10,4 @@ pub mod SoundLaws
 pub mod ZeroLaws
 pub mod TableLaws
 pub mod StartLaws
+pub mod SettleLaws
