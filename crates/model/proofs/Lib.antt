@@ -11,3 +11,4 @@ pub mod ZeroLaws
 pub mod TableLaws
 pub mod StartLaws
 pub mod SettleLaws
+pub mod EventLaws
