@@ -12,3 +12,4 @@ pub mod TableLaws
 pub mod StartLaws
 pub mod SettleLaws
 pub mod EventLaws
+pub mod Refusals
