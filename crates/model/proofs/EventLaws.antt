@@ -1,6 +1,6 @@
 -- An event on a sound card: which vector it means, and that nothing is owed after it. Assumes nothing.
 use mathlib.Core.Path.{_≡_, refl, sym, ap, ap₂, _∙_}
-use mathlib.Core.Bool.{Bool, true, false, not, cond, _&&_, _||_, true≢false, and-false}
+use mathlib.Core.Bool.{Bool, true, false, not, cond, _&&_, _||_, Bool·beq, true≢false, and-false}
 use mathlib.Core.List.{List, [], _∷_, _++_}
 use Prim.Native.Nat.{ℕ, zero, suc, _+_, _*_, _/_, _%_, _^_, _≤_, _<_, min}
 use native.Mathlib.Nat.{mod-lt, min-le-right}
@@ -20,7 +20,7 @@ use Rattle.model.specs.declared.Shape.{Shape}
 use Rattle.model.specs.Shape.{msiPresent, msixPresent, msiVectors}
 use Rattle.model.specs.World.{World, Endpoint, Registers, registers}
 use Rattle.model.specs.Vectors.{waits, isOpen, changeWaiting, owed, vectorCount, vectorOf, granted, modeOf, enableField, msixControlBit, msiControlBit}
-use Rattle.model.specs.Release.{Raised, raise, raiseVector, raisedBy, swept, owedNow, clearAll, settleBytes, sweepBytes, wireChange, wireDueOf, isPin}
+use Rattle.model.specs.Release.{Raised, raise, raiseVector, raisedBy, swept, owedNow, clearAll, settleBytes, sweepBytes, wireChange, wireDue, wireDueOf, settled, isPin}
 use Rattle.model.specs.Sound.{givenOf, shape}
 use Rattle.model.proofs.WaitingLaws.{InRange, OnlyWaiting, only-refl, only-registers, change-only, waits-set}
 use Rattle.model.proofs.SweepLaws.{msi-present, Buffered}
@@ -82,6 +82,11 @@ pub bytes-none : (s : Shape) (u : Endpoint) → owedNow s u ≡ [] → sweepByte
 unfolding sweepBytes join
 bytes-none s u e = rw e
 
+-- a wire that stays sends nothing
+pub no-change : (requester : ℕ) (r : Registers) (level : Bool) → wireChange requester r level level ≡ []
+unfolding wireChange
+no-change requester r level = rw (beq-refl level)
+
 -- ---- an event for vector v of the mechanism in force
 
 -- it leaves the function, or sets the waiting bit of a shut vector
@@ -95,6 +100,10 @@ raised-kept m u v =
     cond-elim (λ (r : Raised). Kept m u v (r .endpoint)) (isOpen m (shape u) (registers u) v) (λ _. same)
     (λ shut. cond-elim (λ (r : Raised). Kept m u v (r .endpoint)) (waits m u v) (λ _. same) (λ _. held shut))
 
+pub kept-only : (m : Mode) (u : Endpoint) (v : ℕ) (u′ : Endpoint) → Kept m u v u′ → OnlyWaiting u u′
+kept-only m u v u′ same = only-refl u
+kept-only m u v u′ (held _) = change-only setBit m u v
+
 set-below : (m : Mode) (s : Shape) (u : Endpoint) (v : ℕ) → InRange m u v → v < vectorCount m s → Below s u → Below s (changeWaiting setBit m u v)
 unfolding changeWaiting vectorCount setBit waits
 set-below Pin s u v r h b = b
@@ -107,10 +116,6 @@ set-below Msix s u v r h b = record {
 module _ (m : Mode) (u : Endpoint) (v : ℕ) (k : SoundEndpoint u) (q : modeOf (shape u) (registers u) ≡ m) (h : v < vectorCount m (shape u)) where
   range : InRange m u v
   range = buffered u (k .start) m v h
-
-  kept-only : (u′ : Endpoint) → Kept m u v u′ → OnlyWaiting u u′
-  kept-only u′ same = only-refl u
-  kept-only u′ (held _) = change-only setBit m u v
 
   -- ---- nothing is owed after it
 
@@ -130,7 +135,7 @@ module _ (m : Mode) (u : Endpoint) (v : ℕ) (k : SoundEndpoint u) (q : modeOf (
   pub kept-quiet : (u′ : Endpoint) → Kept m u v u′ → owedNow (shape u) u′ ≡ []
   unfolding owedNow owed
   kept-quiet u′ c =
-      ap (λ (r : Registers). keep (λ x. isOpen (modeOf (shape u) r) (shape u) r x && waits (modeOf (shape u) r) u′ x) (count 0 (vectorCount (modeOf (shape u) r) (shape u)))) (only-registers (kept-only u′ c))
+      ap (λ (r : Registers). keep (λ x. isOpen (modeOf (shape u) r) (shape u) r x && waits (modeOf (shape u) r) u′ x) (count 0 (vectorCount (modeOf (shape u) r) (shape u)))) (only-registers (kept-only m u v u′ c))
       ∙ ap (λ (n : Mode). keep (λ x. isOpen n (shape u) (registers u) x && waits n u′ x) (count 0 (vectorCount n (shape u)))) q
       ∙ keep-none (λ x. isOpen m (shape u) (registers u) x && waits m u′ x) (count 0 (vectorCount m (shape u)))
       (λ x p. still-idle u′ c x (let b = member-count 0 (vectorCount m (shape u)) x p in omega arith))
@@ -142,4 +147,49 @@ module _ (m : Mode) (u : Endpoint) (v : ℕ) (k : SoundEndpoint u) (q : modeOf (
   kept-below u′ (held _) = set-below m (shape u) u v range h (below (shape u) u (k .below))
 
   pub kept-ready : (u′ : Endpoint) → Kept m u v u′ → Ready (shape u) u′
-  kept-ready u′ c = ready-only (shape u) u u′ (ready u k) (kept-only u′ c) (kept-below u′ c)
+  kept-ready u′ c = ready-only (shape u) u u′ (ready u k) (kept-only m u v u′ c) (kept-below u′ c)
+
+-- ---- an event of either mechanism, or of the pin
+
+-- what an event below E leaves of a sound function
+pub record Raises (u u′ : Endpoint) : Type 0 where
+  pub only : OnlyWaiting u u′
+  pub ready : Ready (shape u) u′
+  pub quiet : owedNow (shape u) u′ ≡ []
+
+module _ (u : Endpoint) (k : SoundEndpoint u) (e : ℕ) (h : e < u .function .events) where
+  vector-raises : (m : Mode) → modeOf (shape u) (registers u) ≡ m → isPin m ≡ false → Raises u (raiseVector m (shape u) u (vectorOf m (shape u) (registers u) e) .endpoint)
+  vector-raises m q n =
+      let v : ℕ = vectorOf m (shape u) (registers u) e in
+      let l = vector-counted m u e k h q n in
+      let c = raised-kept m u v in
+      record { only = kept-only m u v _ c; ready = kept-ready m u v k q l _ c; quiet = kept-quiet m u v k q l _ c }
+
+  mode-raises : (m : Mode) → modeOf (shape u) (registers u) ≡ m → Raises u (raise m (shape u) u e .endpoint)
+  unfolding raise isPin
+  mode-raises Pin q = record { only = only-refl u; ready = ready u k; quiet = k .quiet }
+  mode-raises Msi q = vector-raises Msi q refl
+  mode-raises Msix q = vector-raises Msix q refl
+
+  pub raises : Raises u (raisedBy (shape u) u e .endpoint)
+  unfolding raisedBy
+  raises = mode-raises (modeOf (shape u) (registers u)) refl
+
+-- so nothing follows the event's own packet, and the wire stays
+module _ (w : World) (k : Sound w) (e : ℕ) (h : e < w .endpoint .function .events) where
+  r : Raises (w .endpoint) (raisedBy (shape (w .endpoint)) (w .endpoint) e .endpoint)
+  r = raises (w .endpoint) (k .endpoint) e h
+
+  due : wireDueOf (shape (w .endpoint)) (raisedBy (shape (w .endpoint)) (w .endpoint) e .endpoint) ≡ w .wire
+  due = ap₂ (wireDue (shape (w .endpoint))) (r .only .line) (only-registers (r .only)) ∙ sym (k .wire)
+
+  pub event-settled : settled (shape (w .endpoint)) (raisedBy (shape (w .endpoint)) (w .endpoint) e .endpoint)
+      ≡ record { endpoint = raisedBy (shape (w .endpoint)) (w .endpoint) e .endpoint; wire = w .wire }
+  event-settled = λ i. record { endpoint = swept-none (shape (w .endpoint)) (raisedBy (shape (w .endpoint)) (w .endpoint) e .endpoint) (r .quiet) i; wire = due i }
+
+  pub event-bytes : settleBytes (shape (w .endpoint)) (w .wire) (raisedBy (shape (w .endpoint)) (w .endpoint) e .endpoint) ≡ []
+  unfolding settleBytes
+  event-bytes =
+      let u : Endpoint = raisedBy (shape (w .endpoint)) (w .endpoint) e .endpoint in
+      ap₂ (λ (b : Bool) (l : List ℕ). wireChange (u .function .requester) (registers u) (w .wire) b ++ l) due (bytes-none (shape (w .endpoint)) u (r .quiet))
+      ∙ ap (λ (l : List ℕ). l ++ []) (no-change (u .function .requester) (registers u) (w .wire))

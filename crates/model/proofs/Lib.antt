@@ -17,3 +17,5 @@ pub mod SoundKept
 pub mod ImageLaws
 pub mod ImageExact
 pub mod RestoreResumes
+pub mod PacketLaws
+pub mod BytesBound

@@ -28,10 +28,10 @@ use Rattle.model.specs.Calls.{Call, Outcome, configRead, configWrite, ba
 use Rattle.model.specs.Trials.{worldAfter, outcomes, wroteBytes}
 use Rattle.model.proofs.WriteLaws.{length-written}
 use Rattle.model.proofs.TableLaws.{length-table}
-use Rattle.model.proofs.WaitingLaws.{OnlyWaiting, only-refl, change-only}
+use Rattle.model.proofs.WaitingLaws.{OnlyWaiting, only-refl}
 use Rattle.model.proofs.SweepLaws.{swept-only}
 use Rattle.model.proofs.SoundLaws.{Accepts, accepts, buffers-fit, Sound, is-sound}
-use Rattle.model.proofs.EventLaws.{Kept, same, held, raised-kept}
+use Rattle.model.proofs.EventLaws.{raised-kept, kept-only}
 use Rattle.model.proofs.Refusals.{answered-elim, Passed, passed-all}
 use Rattle.model.proofs.ImageExact.{restored}
 
@@ -51,15 +51,11 @@ room-settled w u t p = record {
   pending = swept-only (shape (w .endpoint)) u .pendingLength ∙ p;
 }
 
-kept-room : (m : Mode) (u : Endpoint) (v : ℕ) (u′ : Endpoint) → Kept m u v u′ → OnlyWaiting u u′
-kept-room m u v u′ same = only-refl u
-kept-room m u v u′ (held _) = change-only _ m u v
-
 raised-only : (m : Mode) (u : Endpoint) (e : ℕ) → OnlyWaiting u (raise m (shape u) u e .endpoint)
 unfolding raise
 raised-only Pin u e = only-refl u
-raised-only Msi u e = kept-room Msi u (vectorOf Msi (shape u) (registers u) e) _ (raised-kept Msi u (vectorOf Msi (shape u) (registers u) e))
-raised-only Msix u e = kept-room Msix u (vectorOf Msix (shape u) (registers u) e) _ (raised-kept Msix u (vectorOf Msix (shape u) (registers u) e))
+raised-only Msi u e = kept-only Msi u (vectorOf Msi (shape u) (registers u) e) _ (raised-kept Msi u (vectorOf Msi (shape u) (registers u) e))
+raised-only Msix u e = kept-only Msix u (vectorOf Msix (shape u) (registers u) e) _ (raised-kept Msix u (vectorOf Msix (shape u) (registers u) e))
 
 event-only : (u : Endpoint) (e : ℕ) → OnlyWaiting u (raisedBy (shape u) u e .endpoint)
 unfolding raisedBy

@@ -17,10 +17,9 @@ use Rattle.model.specs.declared.Shape.{Shape}
 use Rattle.model.specs.Answers.{isAccepted}
 use Rattle.model.specs.Capabilities.{capabilities, listed, broken}
 use Rattle.model.specs.Shape.{shapeOf}
-use Rattle.model.specs.Registers.{writable, storedZero, entryWritable, entryZero, written, inTable}
+use Rattle.model.specs.Registers.{writable, storedZero, entryWritable, entryZero, written, inTable, configWritten, barWritten}
 use Rattle.model.specs.World.{World, Endpoint, Registers, registers, withRegisters, withLine}
-use Rattle.model.specs.Vectors.{modeOf, vectorOf}
-use Rattle.model.specs.Release.{raise, raiseVector, raisedBy, settled, isPin}
+use Rattle.model.specs.Release.{settled}
 use Rattle.model.specs.Start.{Given, given, startRefusal}
 use Rattle.model.specs.Sound.{givenOf, shape, sound, zeroBits}
 use Rattle.model.specs.Image.{isSaved, worldIn, restoreRefusal, imageOf}
@@ -32,7 +31,7 @@ use Rattle.model.proofs.ZeroLaws.{disjoint, disjoint-entry, zero-writte
 use Rattle.model.proofs.SoundLaws.{Accepts, accepts, SoundEndpoint, Sound, is-sound, sound-is}
 use Rattle.model.proofs.StartLaws.{started-sound}
 use Rattle.model.proofs.SettleLaws.{Below, below-same, Ready, ready, settled-sound}
-use Rattle.model.proofs.EventLaws.{raised-kept, vector-counted, kept-ready}
+use Rattle.model.proofs.EventLaws.{raises}
 use Rattle.model.proofs.Refusals.{answered-elim, Passed, passed-all}
 
 -- ---- each change leaves the function ready to be swept, with its shape
@@ -45,7 +44,7 @@ module _ (u : Endpoint) (k : SoundEndpoint u) where
   ok = accepts (givenOf u) (k .start)
 
   -- a configuration write
-  pub ready-config : (o : ℕ) (bs : List ℕ) → Ready (shape u) (withRegisters u (record { config = written (writable (shape u)) (u .function .config) o bs; table = u .table }))
+  pub ready-config : (o : ℕ) (bs : List ℕ) → Ready (shape u) (withRegisters u (configWritten (shape u) (registers u) o bs))
   ready-config o bs = record {
     shaped = shape-same c (written (writable (shape u)) c o bs) (ok .whole) (ok .structures) (fixed-written (shape u) c o bs);
     start =
@@ -56,8 +55,8 @@ module _ (u : Endpoint) (k : SoundEndpoint u) where
     below = below-same (shape u) u _ refl refl (ready u k .below);
   }
 
-  -- the table with a write at place o, or as it is
-  pub ready-table : (o : ℕ) (bs : List ℕ) → Ready (shape u) (withRegisters u (record { config = u .function .config; table = written entryWritable (u .table) o bs }))
+  -- a write of the table at place o
+  ready-table : (o : ℕ) (bs : List ℕ) → Ready (shape u) (withRegisters u (record { config = u .function .config; table = written entryWritable (u .table) o bs }))
   ready-table o bs = record {
     shaped = refl;
     start = ap (λ (n : ℕ). startRefusal (given c (u .function .sizes) (u .function .events) (u .function .requester) n (length (u .pending)))) (length-written entryWritable (u .table) o bs) ∙ k .start;
@@ -66,26 +65,15 @@ module _ (u : Endpoint) (k : SoundEndpoint u) where
     below = below-same (shape u) u _ refl refl (ready u k .below);
   }
 
+  -- a BAR write
+  pub ready-bar : (b o : ℕ) (bs : List ℕ) → Ready (shape u) (withRegisters u (barWritten (shape u) (registers u) b o bs))
+  ready-bar b o bs =
+      cond-elim (λ (t : List ℕ). Ready (shape u) (withRegisters u (record { config = u .function .config; table = t }))) (inTable (shape u) b o)
+      (λ _. ready-table (o - shape u .msix .table .at) bs) (λ _. ready u k)
+
   pub ready-line : (level : Bool) → Ready (shape u) (withLine u level)
   ready-line level =
       record { shaped = refl; start = k .start; config = k .config; table = k .table; below = below-same (shape u) u (withLine u level) refl refl (ready u k .below) }
-
-  -- an event below E
-  ready-vector : (m : Mode) (e : ℕ) → e < u .function .events → modeOf (shape u) (registers u) ≡ m → isPin m ≡ false
-      → Ready (shape u) (raiseVector m (shape u) u (vectorOf m (shape u) (registers u) e) .endpoint)
-  ready-vector m e h q n =
-      let v : ℕ = vectorOf m (shape u) (registers u) e in
-      kept-ready m u v k q (vector-counted m u e k h q n) (raiseVector m (shape u) u v .endpoint) (raised-kept m u v)
-
-  ready-raised : (m : Mode) (e : ℕ) → e < u .function .events → modeOf (shape u) (registers u) ≡ m → Ready (shape u) (raise m (shape u) u e .endpoint)
-  unfolding raise isPin
-  ready-raised Pin e h q = ready u k
-  ready-raised Msi e h q = ready-vector Msi e h q refl
-  ready-raised Msix e h q = ready-vector Msix e h q refl
-
-  pub ready-event : (e : ℕ) → e < u .function .events → Ready (shape u) (raisedBy (shape u) u e .endpoint)
-  unfolding raisedBy
-  ready-event e h = ready-raised (modeOf (shape u) (registers u)) e h refl
 
 -- ---- a card after an accepted call
 
@@ -102,15 +90,8 @@ unfolding next changed
 next-sound w (configRead o n) p = p .isSound
 next-sound w (configWrite o n x out) p = settle w _ (ready-config (w .endpoint) (is-sound w (p .isSound) .endpoint) o (bytesOf n x))
 next-sound w (barRead b o n) p = p .isSound
-next-sound w (barWrite b o n x out) p = settle w _ (bar (inTable (shape (w .endpoint)) b o))
-  where
-    k : SoundEndpoint (w .endpoint)
-    k = is-sound w (p .isSound) .endpoint
-
-    bar : (t : Bool) → Ready (shape (w .endpoint)) (withRegisters (w .endpoint) (record { config = w .endpoint .function .config; table = cond t (written entryWritable (w .endpoint .table) (o - shape (w .endpoint) .msix .table .at) (bytesOf n x)) (w .endpoint .table) }))
-    bar true = ready-table (w .endpoint) k (o - shape (w .endpoint) .msix .table .at) (bytesOf n x)
-    bar false = ready (w .endpoint) k
-next-sound w (event e out) p = settle w _ (ready-event (w .endpoint) (is-sound w (p .isSound) .endpoint) e (event-below (w .endpoint) e out (p .own)))
+next-sound w (barWrite b o n x out) p = settle w _ (ready-bar (w .endpoint) (is-sound w (p .isSound) .endpoint) b o (bytesOf n x))
+next-sound w (event e out) p = settle w _ (raises (w .endpoint) (is-sound w (p .isSound) .endpoint) e (event-below (w .endpoint) e out (p .own)) .ready)
 next-sound w (line level out) p = settle w _ (ready-line (w .endpoint) (is-sound w (p .isSound) .endpoint) level)
 next-sound w (reset out) p = started-sound (givenOf (w .endpoint)) (is-sound w (p .isSound) .endpoint .start)
 next-sound w (save out) p = p .isSound

@@ -7,8 +7,8 @@ use native.Mathlib.Omega.{arith}
 use lib.Bits.{bitAnd, and-zero-r}
 use lib.Dec.{ltb, eqb}
 use lib.ListN.{length, replicate, length-replicate, getD-replicate, List·getD-eq-default}
-use lib.Pow.{pow-pos}
-use borrow.Author.Tests.{lt-ltb, eq-eqb, ltb-true, ltb-false, eqb-true}
+use lib.Pow.{pow-pos, pow-mono}
+use borrow.Author.Tests.{lt-ltb, ne-eqb, eq-eqb, ltb-true, ltb-false, eqb-true}
 use Rattle.words.specs.Lists.{all, allAt, count, keep, firstOf}
 use Rattle.words.specs.Bits.{bit}
 use Rattle.words.specs.Bytes.{byte, bitAt}
@@ -32,7 +32,7 @@ use Rattle.model.proofs.CapabilityLaws.{first-high}
 use Rattle.model.proofs.PlaceLaws.{Placed, placed, size-large, in-msi, at-msix}
 use Rattle.model.proofs.ShapeLaws.{bit-fixed, shape-same, refusal-same}
 use Rattle.model.proofs.FixedLaws.{length-started, byte-started, fixed-started}
-use Rattle.model.proofs.SoundLaws.{Accepts, accepts, buffers-fit, SoundEndpoint, Sound, sound-is}
+use Rattle.model.proofs.SoundLaws.{Accepts, accepts, buffers-fit, events-fit, SoundEndpoint, Sound, sound-is}
 use Rattle.model.proofs.ZeroLaws.{zero-started}
 use Rattle.model.proofs.TableLaws.{length-table, zero-table}
 
@@ -55,6 +55,33 @@ msix-place c (a ∷ r) e p = first-high c 0x11 a r e
 pub msix-high : (c : List ℕ) → msixPresent (shapeOf c) ≡ true → 64 ≤ shapeOf c .msix .at
 unfolding msixPresent shapeOf shapeIn
 msix-high c = msix-place c (withId c (listed (capabilities c)) 0x11) refl
+
+-- without MSI-X there is no vector
+absent : (c l : List ℕ) → withId c (listed (capabilities c)) 0x11 ≡ l → not (eqb (msixOf c l .at) 0) ≡ false → msixOf c l .vectors ≡ 0
+unfolding msixOf msixAt noMsix
+absent c [] e p = refl
+absent c (a ∷ r) e p =
+    let h : 64 ≤ a = first-high c 0x11 a r e in
+    absurd (true≢false (sym (ap not (ne-eqb a 0 (omega arith))) ∙ p))
+
+pub msix-absent : (c : List ℕ) → msixPresent (shapeOf c) ≡ false → shapeOf c .msix .vectors ≡ 0
+unfolding msixPresent shapeOf shapeIn
+msix-absent c = absent c (withId c (listed (capabilities c)) 0x11) refl
+
+-- N is at most 2,048, and 2^Capable at most 32
+pub few-vectors : (g : Given) → Accepts g → shapeOf (g .config) .msix .vectors ≤ 2048
+few-vectors g ok =
+    let f = events-fit (g .events) (shapeOf (g .config)) (ok .events) in
+    by-test (msixPresent (shapeOf (g .config))) (λ p. omega (arith, f .2 p)) (λ p. omega (arith, msix-absent (g .config) p))
+
+pub few-msi : (g : Given) → Accepts g → msiVectors (shapeOf (g .config)) ≤ 32
+unfolding msiVectors
+few-msi g ok =
+    by-test (msiPresent (shapeOf (g .config)))
+    (λ p.
+    let c : shapeOf (g .config) .msi .capable ≤ 5 = ltb-false 5 (shapeOf (g .config) .msi .capable) (placed (listed (capabilities (g .config))) (shapeOf (g .config)) (ok .structures) .few p) in
+    rw p (pow-mono c))
+    (λ p. rw p (omega arith))
 
 -- ---- the configuration of a started card
 

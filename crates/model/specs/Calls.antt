@@ -30,6 +30,17 @@ pub data Call : Type 0 where
   reset : (out : List ℕ) → Call
   save : (out : List ℕ) → Call
 
+-- a save: its bytes are an image, those of any other call packets
+unfoldable pub isSave : Call → Bool
+isSave (configRead o n) = false
+isSave (configWrite o n x out) = false
+isSave (barRead b o n) = false
+isSave (barWrite b o n x out) = false
+isSave (event e out) = false
+isSave (line level out) = false
+isSave (reset out) = false
+isSave (save out) = true
+
 -- what a call gives: `count` bytes of the output are new
 pub record Outcome : Type 0 where
   pub world : World
