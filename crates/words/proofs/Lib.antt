@@ -3,3 +3,5 @@ pub mod BitLaws
 pub mod BoolLaws
 pub mod ListLaws
 pub mod ByteLaws
+pub mod NumberLaws
+pub mod PutLaws
