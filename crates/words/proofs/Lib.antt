@@ -5,3 +5,5 @@ pub mod ListLaws
 pub mod ByteLaws
 pub mod NumberLaws
 pub mod PutLaws
+pub mod LowestLaws
+pub mod OnesLaws
