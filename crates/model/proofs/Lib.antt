@@ -1,1 +1,15 @@
 pub mod Starred
+pub mod WriteLaws
+pub mod CapabilityLaws
+pub mod PlaceLaws
+pub mod ShapeLaws
+pub mod FixedLaws
+pub mod WaitingLaws
+pub mod SweepLaws
+pub mod SoundLaws
+pub mod ZeroLaws
+pub mod TableLaws
+pub mod StartLaws
+pub mod SettleLaws
+pub mod EventLaws
+pub mod Refusals
