@@ -3,3 +3,9 @@ pub mod BitLaws
 pub mod BoolLaws
 pub mod ListLaws
 pub mod ByteLaws
+pub mod NumberLaws
+pub mod PutLaws
+pub mod LowestLaws
+pub mod ShiftLaws
+pub mod OnesLaws
+pub mod NumberBits
