@@ -15,12 +15,11 @@ use Rattle.model.specs.declared.Mode.{Mode}
 use Rattle.model.specs.declared.Mode.the-variants.{Pin, Msi, Msix}
 use Rattle.model.specs.declared.Shape.{Shape}
 use Rattle.model.specs.World.{Registers}
-use Rattle.model.specs.Packets.{message, wireMessage, messageOf}
+use Rattle.model.specs.Packets.{message, messageSize, wireMessage, messageOf}
 use Rattle.model.specs.Release.{wireChange, pinNumber}
 
--- 16 bytes with upper address 0, else 20
-pub message-length : (requester upper address value : ℕ) → length (message requester upper address value) ≡ cond (eqb upper 0) 16 20
-unfolding message
+pub message-length : (requester upper address value : ℕ) → length (message requester upper address value) ≡ messageSize upper
+unfolding message messageSize
 message-length requester upper address value = go (eqb upper 0)
   where
     go : (b : Bool)
@@ -34,9 +33,13 @@ pub wire-length : (requester pin : ℕ) (active : Bool) → length (wireMessage 
 unfolding wireMessage
 wire-length requester pin active = simp (length-append, length-bytesHigh)
 
+pub size-le : (upper : ℕ) → messageSize upper ≤ 20
+unfolding messageSize
+size-le upper = cond-elim (λ (n : ℕ). n ≤ 20) (eqb upper 0) (λ _. omega arith) (λ _. omega arith)
+
 message-le : (requester upper address value : ℕ) → length (message requester upper address value) ≤ 20
 message-le requester upper address value =
-    rw (message-length requester upper address value) (cond-elim (λ (n : ℕ). n ≤ 20) (eqb upper 0) (λ _. omega arith) (λ _. omega arith))
+    rw (message-length requester upper address value) (size-le upper)
 
 pub vector-le : (m : Mode) (s : Shape) (requester : ℕ) (r : Registers) (v : ℕ) → length (messageOf m s requester r v) ≤ 20
 unfolding messageOf

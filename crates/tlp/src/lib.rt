@@ -8,7 +8,7 @@ ghost use Prim.Native.Nat.{_+_, _≤_};
 ghost use lib.ListN.{length};
 ghost use Rattle.words.specs.Writers.{Wrote};
 ghost use Rattle.model.specs.Packets.{message, wireMessage};
-ghost use Rattle.tlp.specs.Sizes.{messageSize};
+ghost use Rattle.model.specs.Packets.{messageSize};
 
 // The bytes of a message.
 pub fn message_size(upper: u32) -> usize

@@ -1,6 +1,6 @@
 -- The two cases of the test. Assumes nothing.
 use borrow.Author.Tests.{eq-eqb, ne-eqb}
-use Rattle.tlp.specs.Sizes.{messageSize}
+use Rattle.model.specs.Packets.{messageSize}
 use Rattle.tlp.proofs.message_size.Statement.{statement}
 use Rattle.tlp.proofs.message_size.Tie as tie
 

@@ -2,8 +2,8 @@
 use mathlib.Core.Path.{_≡_, sym, ap, _∙_}
 use native.Mathlib.Omega.{arith}
 use lib.ListN.{length}
-use Rattle.tlp.specs.Sizes.{messageSize}
-use Rattle.tlp.proofs.PacketLaws.{message-length}
+use Rattle.model.specs.Packets.{messageSize}
+use Rattle.model.proofs.PacketLaws.{message-length}
 use borrow.Author.Needs.{needs}
 use Rattle.tlp.proofs.put_message.Statement.{statement}
 use Rattle.tlp.proofs.put_message.Tie as tie
