@@ -1,3 +1,5 @@
 pub mod Starred
 pub mod WriteLaws
 pub mod CapabilityLaws
+pub mod SinceLaws
+pub mod Machine

@@ -10,4 +10,6 @@ pub mod Start
 pub mod Sound
 pub mod Image
 pub mod Calls
+pub mod Since
+pub mod History
 pub mod Cases
