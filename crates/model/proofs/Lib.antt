@@ -3,3 +3,5 @@ pub mod WriteLaws
 pub mod CapabilityLaws
 pub mod SinceLaws
 pub mod Machine
+pub mod HistoryBytes
+pub mod HistoryRegisters
