@@ -1,7 +1,10 @@
-pub mod Starred
-pub mod WriteLaws
-pub mod CapabilityLaws
 pub mod SinceLaws
 pub mod Machine
 pub mod HistoryBytes
 pub mod HistoryRegisters
+pub mod Starred
+pub mod WriteLaws
+pub mod CapabilityLaws
+pub mod PlaceLaws
+pub mod ShapeLaws
+pub mod FixedLaws
