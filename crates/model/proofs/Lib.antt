@@ -2,6 +2,7 @@ pub mod SinceLaws
 pub mod Machine
 pub mod HistoryBytes
 pub mod HistoryRegisters
+pub mod HistoryShape
 pub mod Starred
 pub mod WriteLaws
 pub mod CapabilityLaws
