@@ -3,6 +3,8 @@ pub mod Machine
 pub mod HistoryBytes
 pub mod HistoryRegisters
 pub mod HistoryShape
+pub mod LatestLaws
+pub mod HistoryBits
 pub mod Starred
 pub mod WriteLaws
 pub mod CapabilityLaws

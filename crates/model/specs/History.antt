@@ -5,8 +5,9 @@ use mathlib.Core.Bool.{Bool, true, false, not, cond, _&&_}
 use mathlib.Core.List.{List, [], _∷_, foldl}
 use mathlib.Core.Logic.{_⊎_}
 use mathlib.Core.Option.{Option, none, some, Option·getD, Option·map}
-use Prim.Native.Nat.{ℕ, _-_}
+use Prim.Native.Nat.{ℕ, _-_, _<_}
 use lib.Dec.{ltb, eqb}
+use lib.ListN.{length}
 use Rattle.words.specs.Lists.{within, eachAt}
 use Rattle.words.specs.Bits.{bit, merge}
 use Rattle.words.specs.Bytes.{byte, bytesOf}
@@ -120,6 +121,11 @@ registersBy g past =
 unfoldable pub byteAt : Registers → Location → ℕ
 byteAt r (configByte i) = byte (r .config) i
 byteAt r (tableByte i) = byte (r .table) i
+
+-- the registers have that byte
+unfoldable pub Has : Registers → Location → Type 0
+Has r (configByte i) = i < length (r .config)
+Has r (tableByte i) = i < length (r .table)
 
 -- what an accepted write put at bit k of a location, if it reached that bit
 unfoldable pub wroteBit : Shape → Entry → Location → ℕ → Option Bool
