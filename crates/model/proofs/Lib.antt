@@ -11,3 +11,5 @@ pub mod CapabilityLaws
 pub mod PlaceLaws
 pub mod ShapeLaws
 pub mod FixedLaws
+pub mod WaitingLaws
+pub mod SweepLaws
