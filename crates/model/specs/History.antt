@@ -19,7 +19,7 @@ use Rattle.model.specs.Answers.{isAccepted}
 use Rattle.model.specs.Shape.{shapeOf}
 use Rattle.model.specs.Registers.{writable, entryWritable, inTable, startedConfig, startedTable}
 use Rattle.model.specs.World.{World, Registers}
-use Rattle.model.specs.Vectors.{modeOf, isOpen, vectorOf}
+use Rattle.model.specs.Vectors.{inForce, isOpen, vectorOf}
 use Rattle.model.specs.Start.{Given}
 use Rattle.model.specs.Calls.{Call, configRead, configWrite, barRead, barWrite, event, line, reset, save, Outcome, step}
 use Rattle.model.specs.Since.{Since, Every}
@@ -143,27 +143,16 @@ Holds g past a k y =
 
 -- ---- who is open, and what an event means, by the registers after a past
 
-unfoldable pub sameMode : Mode → Mode → Bool
-sameMode Pin Pin = true
-sameMode Pin Msi = false
-sameMode Pin Msix = false
-sameMode Msi Pin = false
-sameMode Msi Msi = true
-sameMode Msi Msix = false
-sameMode Msix Pin = false
-sameMode Msix Msi = false
-sameMode Msix Msix = true
-
-unfoldable pub inForceBy : Given → Past → Mode → Bool
-inForceBy g past m = sameMode m (modeOf (shapeOf (g .config)) (registersBy g past))
-
 -- vector v of the mechanism m is open
 unfoldable pub openBy : Given → Past → Mode → ℕ → Bool
-openBy g past m v = inForceBy g past m && isOpen m (shapeOf (g .config)) (registersBy g past) v
+openBy g past m v = isOpen m (shapeOf (g .config)) (registersBy g past) v
 
 -- event e means vector v of the mechanism m, which is in force
 unfoldable pub meansBy : Given → Past → Mode → ℕ → ℕ → Bool
-meansBy g past m v e = inForceBy g past m && eqb (vectorOf m (shapeOf (g .config)) (registersBy g past) e) v
+meansBy g past m v e =
+    let s : Shape = shapeOf (g .config) in
+    let r : Registers = registersBy g past in
+    inForce m s r && eqb (vectorOf m s r e) v
 
 -- a call is an event for that vector
 unfoldable pub isEventFor : Given → Past → Mode → ℕ → Call → Bool
