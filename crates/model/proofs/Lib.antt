@@ -5,6 +5,7 @@ pub mod HistoryRegisters
 pub mod HistoryShape
 pub mod LatestLaws
 pub mod HistoryBits
+pub mod EventLaws
 pub mod Starred
 pub mod WriteLaws
 pub mod CapabilityLaws
