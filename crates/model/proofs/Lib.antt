@@ -14,3 +14,8 @@ pub mod ShapeLaws
 pub mod FixedLaws
 pub mod WaitingLaws
 pub mod SweepLaws
+pub mod SoundLaws
+pub mod ZeroLaws
+pub mod TableLaws
+pub mod StartLaws
+pub mod SettleLaws

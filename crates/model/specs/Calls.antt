@@ -38,11 +38,11 @@ pub record Outcome : Type 0 where
   pub output : List ℕ
 
 -- everything unchanged, nothing sent
-unfoldable pub refused : World → ℕ → List ℕ → Outcome
+abbrev pub refused : World → ℕ → List ℕ → Outcome
 refused w n out = record { world = w; answer = Refused n; count = 0; output = out }
 
 -- the bytes stand at the start of the output, and those behind them keep their contents
-unfoldable pub accepted : World → Answer → List ℕ → List ℕ → Outcome
+abbrev pub accepted : World → Answer → List ℕ → List ℕ → Outcome
 accepted w a bytes out = record { world = w; answer = a; count = length bytes; output = over bytes out }
 
 -- ---- "Refusals of a running card": the rows between 1 and 6
@@ -72,7 +72,7 @@ rows u (save out) = []
 -- ---- the function after an accepted call, before a waiting vector is sent
 
 -- a start with the same shape
-unfoldable pub resetEndpoint : Endpoint → Endpoint
+abbrev pub resetEndpoint : Endpoint → Endpoint
 resetEndpoint u = started (u .function .config) (u .function .sizes) (u .function .events) (u .function .requester)
 
 unfoldable pub changed : Endpoint → Call → Endpoint
@@ -152,11 +152,11 @@ step w c =
 -- ---- start and restore
 
 -- the wire inactive
-unfoldable pub startedWorld : Given → World
+abbrev pub startedWorld : Given → World
 startedWorld g = record { endpoint = started (g .config) (g .sizes) (g .events) (g .requester); wire = false }
 
 -- the two lent buffers beside a card whose fields are all 0
-unfoldable pub zeroWorld : Endpoint → World
+abbrev pub zeroWorld : Endpoint → World
 zeroWorld u = record { endpoint = endpointOf zeroFunction (u .table) (u .pending); wire = false }
 
 abbrev pub startGiven : Endpoint → (config sizes : List ℕ) → (events requester : ℕ) → Given
