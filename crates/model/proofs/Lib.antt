@@ -6,6 +6,10 @@ pub mod HistoryShape
 pub mod LatestLaws
 pub mod HistoryBits
 pub mod EventLaws
+pub mod RunningLaws
+pub mod HistoryCalls
+pub mod HistoryReset
+pub mod HistoryLaw
 pub mod Starred
 pub mod WriteLaws
 pub mod CapabilityLaws
