@@ -27,7 +27,7 @@ use Rattle.model.specs.Calls.{Call, configRead, configWrite, barRead, ba
 use Rattle.model.specs.History.{Entry, Past, Location, configByte, tableByte, Run, called, isReset, resets, puts, wrote, registersBy, openBy, meansBy, isEventFor, heldBy}
 use Rattle.model.proofs.WaitingLaws.{OnlyWaiting, only-registers}
 use Rattle.model.proofs.RunningLaws.{event-range}
-use Rattle.model.proofs.EventLaws.{raised-only, raised-waits}
+use Rattle.model.proofs.RaisedLaws.{raised-only, raised-waits}
 use Rattle.model.proofs.HistoryRegisters.{registers-other, registers-configWrite, registers-barWrite, refused-resets, refused-wrote, idle-resets, idle-wrote}
 use Rattle.model.proofs.HistoryCalls.{Good, entered, LawOf, open-same, refused-held, idle-held, soundness, shape-now, still, sweeps}
 use Rattle.model.proofs.HistoryReset.{resetting}
