@@ -24,3 +24,4 @@ pub mod ZeroLaws
 pub mod TableLaws
 pub mod StartLaws
 pub mod SettleLaws
+pub mod EventLaws
