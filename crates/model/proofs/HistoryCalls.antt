@@ -23,7 +23,8 @@ use Rattle.model.proofs.Machine.{Law, bitAfter, bit-stays}
 use Rattle.model.proofs.WaitingLaws.{only-registers}
 use Rattle.model.proofs.SweepLaws.{swept-only, swept-waits}
 use Rattle.model.proofs.SoundLaws.{SoundEndpoint, Sound, is-sound, accepts}
-use Rattle.model.proofs.RunningLaws.{buffered, pending-length, none-owed}
+use Rattle.model.proofs.SettleLaws.{buffered}
+use Rattle.model.proofs.RunningLaws.{buffered-same, none-owed}
 use Rattle.model.proofs.HistoryShape.{shape-by}
 use Rattle.model.proofs.HistoryRegisters.{registers-other, refused-resets, refused-wrote, idle-resets, idle-wrote}
 
@@ -84,7 +85,7 @@ module _ (g : Given) (ok : startRefusal g ≡ 0) (m : Mode) (v : ℕ) (r : Run) 
     good = record { isSound = i .isSound; same = i .same ∙ sym kept };
     wait =
         bit-stays (waits m u v) (openBy g (r .past) m v)
-        (ap (λ (b : Bool). b && waits m u v) (sym (open-now u (r .past) (i .same))) ∙ none-owed m (shape u) u v (soundness .quiet))
+        (ap (λ (b : Bool). b && waits m u v) (sym (open-now u (r .past) (i .same))) ∙ none-owed m u v soundness)
         ∙ sym (ap₂ (λ (a b : Bool). bitAfter a (waits m u v) b (openBy g (x ∷ r .past) m v)) h e ∙ ap (bitAfter false (waits m u v) false) (open-same g m v (x ∷ r .past) (r .past) kept));
   }
     where
@@ -103,7 +104,7 @@ module _ (g : Given) (ok : startRefusal g ≡ 0) (m : Mode) (v : ℕ) (r : Run) 
     longer = refl;
     good = record { isSound = k; same = only-registers (swept-only (shape u) u′) ∙ regs };
     wait =
-        swept-waits m (shape u) u′ v (buffered (shape u) u′ (n ∙ pending-length u soundness))
+        swept-waits m (shape u) u′ v (buffered-same (shape u) u u′ n (buffered u (soundness .start)))
         ∙ ap₂ (λ (a b : Bool). a && not b) w (open-now u′ (x ∷ r .past) regs)
         ∙ after (waits m u v) (heldBy g m v x (r .past)) (openBy g (x ∷ r .past) m v) shut
         ∙ sym (ap (λ (b : Bool). bitAfter (heldBy g m v x (r .past)) (waits m u v) b (openBy g (x ∷ r .past) m v)) e);
