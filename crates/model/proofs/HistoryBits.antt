@@ -1,16 +1,13 @@
 -- A bit of the registers by a past is what the demand's words say of it. Assumes nothing.
-use mathlib.Core.Path.{_≡_, refl, sym, ap, ap₂, _∙_}
+use mathlib.Core.Path.{_≡_, refl, ap, _∙_}
 use mathlib.Core.Bool.{Bool, true, false, cond}
-use mathlib.Core.List.{List, [], _∷_}
+use mathlib.Core.List.{[], _∷_}
 use mathlib.Core.Logic.{_↔_}
 use mathlib.Core.Option.{Option, none, some, Option·getD, Option·map, Option·none-ne-some}
-use Prim.Native.Nat.{ℕ, _<_}
-use lib.ListN.{length}
+use Prim.Native.Nat.{ℕ}
 use Rattle.words.specs.Bits.{bit, merge}
-use Rattle.words.specs.Bytes.{byte}
 use Rattle.words.proofs.BitLaws.{bit-merge}
 use Rattle.model.specs.declared.Shape.{Shape}
-use Rattle.model.specs.declared.Answer.{Answer}
 use Rattle.model.specs.Shape.{shapeOf}
 use Rattle.model.specs.Start.{Given}
 use Rattle.model.specs.Calls.{Call, configRead, configWrite, barRead, barWrite, event, line, reset, save}

@@ -1,32 +1,29 @@
 -- The law of one call: the registers stay those of the past, and a vector waits if an event for it was held now, or if it waited, the call was no reset
 -- and the vector is shut. Assumes nothing.
 use mathlib.Core.Path.{_≡_, refl, sym, ap, ap₂, _∙_}
-use mathlib.Core.Bool.{Bool, true, false, not, cond, _&&_, _||_, true≢false, false≢true}
-use mathlib.Core.List.{List, [], _∷_}
+use mathlib.Core.Bool.{Bool, true, false, not, _&&_, _||_}
+use mathlib.Core.List.{_∷_}
 use mathlib.Core.Option.{none}
-use Prim.Native.Nat.{ℕ, _<_}
+use Prim.Native.Nat.{ℕ}
 use lib.ListN.{length}
 use Rattle.model.specs.declared.Mode.{Mode}
-use Rattle.model.specs.declared.Mode.the-variants.{Pin, Msi, Msix}
 use Rattle.model.specs.declared.Shape.{Shape}
-use Rattle.model.specs.declared.Answer.{Answer}
 use Rattle.model.specs.Answers.{isAccepted}
 use Rattle.model.specs.Shape.{shapeOf}
 use Rattle.model.specs.World.{World, Endpoint, Registers, registers}
 use Rattle.model.specs.Vectors.{isOpen, waits}
-use Rattle.model.specs.Release.{settled, swept, isPin}
+use Rattle.model.specs.Release.{settled}
 use Rattle.model.specs.Start.{Given, startRefusal}
 use Rattle.model.specs.Sound.{sound, shape}
-use Rattle.model.specs.Calls.{Call}
-use Rattle.model.specs.History.{Entry, Past, Location, Run, called, isReset, resets, puts, wrote, registersBy, openBy, isEventFor, heldBy}
+use Rattle.model.specs.History.{Entry, Past, Location, Run, called, resets, wrote, registersBy, openBy, isEventFor, heldBy}
 use Rattle.model.proofs.Machine.{Law, bitAfter, bit-stays}
 use Rattle.model.proofs.WaitingLaws.{only-registers}
 use Rattle.model.proofs.SweepLaws.{swept-only, swept-waits}
-use Rattle.model.proofs.SoundLaws.{SoundEndpoint, Sound, is-sound, accepts}
+use Rattle.model.proofs.SoundLaws.{SoundEndpoint, is-sound, accepts}
 use Rattle.model.proofs.SettleLaws.{buffered}
 use Rattle.model.proofs.RunningLaws.{buffered-same, none-owed}
 use Rattle.model.proofs.HistoryShape.{shape-by}
-use Rattle.model.proofs.HistoryRegisters.{registers-other, refused-resets, refused-wrote, idle-resets, idle-wrote}
+use Rattle.model.proofs.HistoryRegisters.{registers-other}
 
 -- what every call keeps: the card is sound, and its registers are those of the past
 pub record Good (g : Given) (r : Run) : Type 0 where

@@ -1,13 +1,13 @@
 -- The law of one call, for each call: each is refused, changes nothing, is followed by a sweep, or is a reset. Assumes nothing.
 use mathlib.Core.Path.{_≡_, refl, sym, ap, ap₂, _∙_}
-use mathlib.Core.Bool.{Bool, true, false, not, cond, _&&_, _||_, false≢true}
-use mathlib.Core.List.{List, [], _∷_}
+use mathlib.Core.Bool.{Bool, true, false, not, _&&_, _||_, false≢true}
+use mathlib.Core.List.{List, _∷_}
 use mathlib.Core.Option.{none}
 use Prim.Native.Nat.{ℕ, _/_, _%_, _<_}
 use lib.Dec.{eqb}
 use lib.ListN.{length}
 use borrow.Author.Tests.{eqb-true, leb-false, not-true}
-use Rattle.words.proofs.BoolLaws.{cond-elim, by-test, both, passed}
+use Rattle.words.proofs.BoolLaws.{cond-elim, both, passed}
 use Rattle.words.specs.Bits.{bit}
 use Rattle.words.specs.Bytes.{byte, bytesOf}
 use Rattle.model.specs.declared.Mode.{Mode}
@@ -23,8 +23,8 @@ use Rattle.model.specs.Vectors.{inForce, isOpen, waits, vectorOf, modeOf
 use Rattle.model.specs.Release.{Raised, raiseVector, raise, raisedBy, settled, isPin}
 use Rattle.model.specs.Start.{Given, startRefusal}
 use Rattle.model.specs.Sound.{sound, shape}
-use Rattle.model.specs.Calls.{Call, configRead, configWrite, barRead, barWrite, event, line, reset, save, Outcome, accepted, refused, rows, changed, next, answerOf, refusal, answered, step, sends, outputOf, resetEndpoint}
-use Rattle.model.specs.History.{Entry, Past, Location, configByte, tableByte, Run, called, isReset, resets, puts, wrote, registersBy, openBy, meansBy, isEventFor, heldBy}
+use Rattle.model.specs.Calls.{Call, configRead, configWrite, barRead, barWrite, event, line, reset, save, Outcome, accepted, refused, rows, changed, next, answerOf, refusal, answered, step}
+use Rattle.model.specs.History.{Entry, Location, Run, called, isReset, resets, puts, registersBy, openBy, meansBy, isEventFor, heldBy}
 use Rattle.model.proofs.WaitingLaws.{OnlyWaiting, only-registers}
 use Rattle.model.proofs.RunningLaws.{event-range}
 use Rattle.model.proofs.RaisedLaws.{raised-only, raised-waits}

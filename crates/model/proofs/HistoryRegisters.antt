@@ -11,10 +11,9 @@ use Rattle.model.specs.declared.Answer.{Answer}
 use Rattle.model.specs.Answers.{isAccepted}
 use Rattle.model.specs.Shape.{shapeOf}
 use Rattle.model.specs.Registers.{entryWritable, written, inTable, configWritten, barWritten}
-use Rattle.model.specs.World.{Registers}
 use Rattle.model.specs.Start.{Given}
-use Rattle.model.specs.Calls.{Call, configWrite, barWrite}
-use Rattle.model.specs.History.{Entry, Past, Location, configByte, tableByte, isReset, resets, accessByte, puts, wrote, startRegisters, writableAt, bytesBy, registersBy}
+use Rattle.model.specs.Calls.{configWrite, barWrite}
+use Rattle.model.specs.History.{Entry, Past, Location, configByte, tableByte, isReset, resets, puts, wrote, startRegisters, writableAt, bytesBy, registersBy}
 use Rattle.model.proofs.HistoryBytes.{by-none, by-reset, by-other, by-write}
 
 -- ---- an entry that is refused, or of a call that neither resets nor writes

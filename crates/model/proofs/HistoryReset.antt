@@ -1,18 +1,17 @@
 -- A start, and a reset, which is a start with the same shape. Assumes nothing.
 use mathlib.Core.Path.{_≡_, refl, sym, ap, ap₂, _∙_}
-use mathlib.Core.Bool.{Bool, true, false, not, _&&_, _||_}
-use mathlib.Core.List.{List, [], _∷_}
+use mathlib.Core.Bool.{Bool, true, false}
+use mathlib.Core.List.{_∷_}
 use Prim.Native.Nat.{ℕ}
 use Rattle.model.specs.declared.Mode.{Mode}
 use Rattle.model.specs.declared.Shape.{Shape}
-use Rattle.model.specs.Shape.{shapeOf}
 use Rattle.model.specs.Registers.{startedConfig, startedTable}
-use Rattle.model.specs.World.{World, Endpoint, Registers, registers}
+use Rattle.model.specs.World.{Endpoint, Registers, registers}
 use Rattle.model.specs.Vectors.{waits}
 use Rattle.model.specs.Start.{Given, startRefusal, started}
 use Rattle.model.specs.Sound.{givenOf, sound, shape}
 use Rattle.model.specs.Calls.{resetEndpoint}
-use Rattle.model.specs.History.{Entry, Run, resets, startRegisters, registersBy, openBy, heldBy}
+use Rattle.model.specs.History.{Entry, Run, resets, startRegisters, openBy, heldBy}
 use Rattle.model.proofs.Machine.{bitAfter}
 use Rattle.model.proofs.StartLaws.{started-waits}
 use Rattle.model.proofs.HistoryShape.{restart-by}

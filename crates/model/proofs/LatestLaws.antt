@@ -1,9 +1,9 @@
 -- The latest entry that says something decides, unless a reset came after it: by recursion, and in words. Nothing here knows of cards. Assumes nothing.
-use mathlib.Core.Path.{_≡_, refl, sym, ap, _∙_}
+use mathlib.Core.Path.{_≡_, refl, ap, _∙_}
 use mathlib.Core.Bool.{Bool, true, false, cond}
 use mathlib.Core.List.{List, [], _∷_}
 use mathlib.Core.Logic.{_↔_, _⊎_, inl, inr}
-use mathlib.Core.Option.{Option, none, some, Option·getD, Option·some-injective}
+use mathlib.Core.Option.{Option, none, some, Option·getD}
 use Rattle.words.proofs.BoolLaws.{cond-elim}
 use Rattle.model.specs.Since.{Since, Every}
 use Rattle.model.proofs.SinceLaws.{SinceR, since-iff, since-now, since-later, every-nil, every-cons, every-head, every-tail}

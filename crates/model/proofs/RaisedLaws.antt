@@ -1,6 +1,6 @@
 -- What an event leaves waiting. Assumes nothing.
-use mathlib.Core.Path.{_≡_, refl, sym, ap, ap₂, _∙_}
-use mathlib.Core.Bool.{Bool, true, false, not, cond, _&&_, _||_, true≢false, false≢true}
+use mathlib.Core.Path.{_≡_, refl, sym, ap, _∙_}
+use mathlib.Core.Bool.{Bool, true, false, not, _&&_, _||_}
 use Prim.Native.Nat.{ℕ}
 use lib.Dec.{eqb}
 use borrow.Author.Tests.{eq-eqb, ne-eqb, eqb-true, eqb-false}
@@ -10,7 +10,7 @@ use Rattle.model.specs.declared.Mode.{Mode}
 use Rattle.model.specs.declared.Mode.the-variants.{Pin, Msi, Msix}
 use Rattle.model.specs.declared.Shape.{Shape}
 use Rattle.model.specs.World.{Endpoint, Registers, registers}
-use Rattle.model.specs.Vectors.{modeOf, sameMode, inForce, isOpen, waits, changeWaiting, vectorOf}
+use Rattle.model.specs.Vectors.{modeOf, sameMode, inForce, isOpen, waits, vectorOf}
 use Rattle.model.specs.Release.{Raised, raiseVector, raise, raisedBy, isPin}
 use Rattle.model.proofs.WaitingLaws.{InRange, OnlyWaiting, only-refl, change-only, waits-set, waits-apart}
 use Rattle.model.proofs.SweepLaws.{in-force}

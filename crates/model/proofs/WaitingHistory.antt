@@ -1,6 +1,6 @@
 -- Demand 3, first part: a waiting bit is never lost, over every list of calls. Assumes nothing.
-use mathlib.Core.Path.{_≡_, refl, sym, ap, _∙_}
-use mathlib.Core.Bool.{Bool, true, false, false≢true}
+use mathlib.Core.Path.{_≡_, refl, sym, _∙_}
+use mathlib.Core.Bool.{true, false, false≢true}
 use mathlib.Core.List.{List, []}
 use mathlib.Core.Logic.{_↔_}
 use Prim.Native.Nat.{ℕ}
@@ -17,7 +17,7 @@ use Rattle.model.specs.Vectors.{waits}
 use Rattle.model.specs.Release.{isPin}
 use Rattle.model.specs.Start.{Given, startRefusal}
 use Rattle.model.specs.Sound.{sound}
-use Rattle.model.specs.Calls.{Call, Outcome, accepted, refused, answered, step, startedWorld, startGiven, startOf, Operation, start, operate}
+use Rattle.model.specs.Calls.{Call, Outcome, accepted, refused, answered, step, startedWorld, startGiven, startOf, start, operate}
 use Rattle.model.specs.History.{Run, called, run, resets, openBy, heldBy, WaitsBy, isVector}
 use Rattle.model.proofs.Machine.{bit-iff}
 use Rattle.model.proofs.StartLaws.{started-sound, started-waits}

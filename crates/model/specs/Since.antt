@@ -1,6 +1,6 @@
 -- "It was so at some entry, and so at every later one", over a past with the latest entry first. Assumes nothing.
 use mathlib.Core.Path.{_≡_}
-use mathlib.Core.List.{List, [], _∷_, _++_}
+use mathlib.Core.List.{List, _∷_, _++_}
 
 module _ {A : Type 0} where
   -- a place in a past: the entries later than it, the entry, the entries before it
