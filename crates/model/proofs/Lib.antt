@@ -25,3 +25,4 @@ pub mod TableLaws
 pub mod StartLaws
 pub mod SettleLaws
 pub mod EventLaws
+pub mod Refusals

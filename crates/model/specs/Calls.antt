@@ -135,9 +135,17 @@ outputOf (line level out) = out
 outputOf (reset out) = out
 outputOf (save out) = out
 
--- 1: card not sound; 6: output shorter than this call's packets or image
+-- 6: output shorter than this call's packets or image
+unfoldable pub short : World → Call → Bool
+short w c = ltb (length (outputOf c)) (length (sends w c))
+
+-- the refusal of a call, 0 if there is none. 1: card not sound
 unfoldable pub refusal : World → Call → ℕ
-refusal w c = firstOf ((1, not (sound w)) ∷ (rows (w .endpoint) c ++ ((6, ltb (length (outputOf c)) (length (sends w c))) ∷ [])))
+refusal w c = firstOf ((1, not (sound w)) ∷ (rows (w .endpoint) c ++ ((6, short w c) ∷ [])))
+
+-- the same without the row 6
+unfoldable pub earlierRefusal : World → Call → ℕ
+earlierRefusal w c = firstOf ((1, not (sound w)) ∷ rows (w .endpoint) c)
 
 -- refused with a number, or accepted where that is 0
 unfoldable pub answered : ℕ → (ifAccepted ifRefused : Outcome) → Outcome
