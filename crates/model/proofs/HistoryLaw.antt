@@ -1,13 +1,13 @@
 -- The law of one call, for each call: each is refused, changes nothing, is followed by a sweep, or is a reset. Assumes nothing.
 use mathlib.Core.Path.{_≡_, refl, sym, ap, ap₂, _∙_}
 use mathlib.Core.Bool.{Bool, true, false, not, _&&_, _||_, false≢true}
-use mathlib.Core.List.{List, _∷_}
+use mathlib.Core.List.{List, [], _∷_}
 use mathlib.Core.Option.{none}
 use Prim.Native.Nat.{ℕ, _/_, _%_, _<_}
 use lib.Dec.{eqb}
 use lib.ListN.{length}
-use borrow.Author.Tests.{eqb-true, leb-false, not-true}
-use Rattle.words.proofs.BoolLaws.{cond-elim, both, passed}
+use borrow.Author.Tests.{leb-false, not-true}
+use Rattle.words.proofs.BoolLaws.{both, passed}
 use Rattle.words.specs.Bits.{bit}
 use Rattle.words.specs.Bytes.{byte, bytesOf}
 use Rattle.model.specs.declared.Mode.{Mode}
@@ -19,35 +19,19 @@ use Rattle.model.specs.Answers.{isAccepted}
 use Rattle.model.specs.Shape.{shapeOf}
 use Rattle.model.specs.Registers.{configWritten, barWritten}
 use Rattle.model.specs.World.{World, Endpoint, Registers, registers}
-use Rattle.model.specs.Vectors.{inForce, isOpen, waits, vectorOf, modeOf}
-use Rattle.model.specs.Release.{Raised, raiseVector, raise, raisedBy, settled, isPin}
+use Rattle.model.specs.Vectors.{inForce, isOpen, waits, vectorOf}
+use Rattle.model.specs.Release.{raisedBy, settled, isPin}
 use Rattle.model.specs.Start.{Given, startRefusal}
 use Rattle.model.specs.Sound.{sound, shape}
-use Rattle.model.specs.Calls.{Call, configRead, configWrite, barRead, barWrite, event, line, reset, save, Outcome, accepted, refused, rows, changed, next, answerOf, refusal, answered, step}
+use Rattle.model.specs.Calls.{Call, configRead, configWrite, barRead, barWrite, event, line, reset, save, Outcome, rows, changed, next, answerOf, refusal, step}
 use Rattle.model.specs.History.{Entry, Location, Run, called, isReset, resets, puts, registersBy, openBy, meansBy, isEventFor, heldBy}
 use Rattle.model.proofs.WaitingLaws.{OnlyWaiting, only-registers}
+use Rattle.model.proofs.Refusals.{answered-elim, answer-accepted, passed-all}
 use Rattle.model.proofs.RunningLaws.{event-range}
 use Rattle.model.proofs.RaisedLaws.{raised-only, raised-waits}
 use Rattle.model.proofs.HistoryRegisters.{registers-other, registers-configWrite, registers-barWrite, refused-resets, refused-wrote, idle-resets, idle-wrote}
 use Rattle.model.proofs.HistoryCalls.{Good, entered, LawOf, open-same, refused-held, idle-held, soundness, shape-now, still, sweeps}
 use Rattle.model.proofs.HistoryReset.{resetting}
-
--- ---- the answer of an accepted call is no refusal
-
-vector-accepted : (n : Mode) (s : Shape) (u : Endpoint) (x : ℕ) → isAccepted (raiseVector n s u x .answer) ≡ true
-unfolding raiseVector isAccepted
-vector-accepted n s u x =
-    cond-elim (λ (r : Raised). isAccepted (r .answer) ≡ true) (isOpen n s (registers u) x) (λ _. refl)
-    (λ _. cond-elim (λ (r : Raised). isAccepted (r .answer) ≡ true) (waits n u x) (λ _. refl) (λ _. refl))
-
-pub event-accepted : (s : Shape) (u : Endpoint) (e : ℕ) → isAccepted (raisedBy s u e .answer) ≡ true
-unfolding raisedBy raise isAccepted
-event-accepted s u e = go (modeOf s (registers u))
-  where
-    go : (n : Mode) → isAccepted (raise n s u e .answer) ≡ true
-    go Pin = refl
-    go Msi = vector-accepted Msi s u (vectorOf Msi s (registers u) e)
-    go Msix = vector-accepted Msix s u (vectorOf Msix s (registers u) e)
 
 -- ---- each call
 
@@ -71,8 +55,8 @@ reset-resets out = refl
 
 -- check 2 passed
 event-below : (w : World) (e : ℕ) (out : List ℕ) → refusal w (event e out) ≡ 0 → e < w .endpoint .function .events
-unfolding refusal rows
-event-below w e out z = leb-false (w .endpoint .function .events) e (passed 2 _ refl (passed 1 _ refl z .1) .0)
+unfolding rows
+event-below w e out z = leb-false (w .endpoint .function .events) e (passed 2 [] refl (passed-all w (event e out) z .own) .0)
 
 module _ (g : Given) (ok : startRefusal g ≡ 0) (m : Mode) (v : ℕ) (r : Run) (i : Good g r) where
   abbrev w : World
@@ -124,11 +108,11 @@ module _ (g : Given) (ok : startRefusal g ≡ 0) (m : Mode) (v : ℕ) (r : Run) 
       → sound (settled (shape (r .world .endpoint)) (raisedBy (shape (r .world .endpoint)) (r .world .endpoint) e .endpoint)) ≡ true
       → LawOf g m v r (entered r (entryOf (event e out) (raisedBy (shape (r .world .endpoint)) (r .world .endpoint) e .answer))
       (settled (shape (r .world .endpoint)) (raisedBy (shape (r .world .endpoint)) (r .world .endpoint) e .endpoint)))
-  unfolding isReset puts
+  unfolding isReset puts answerOf
   events p e out h k =
       sweeps g ok m v r i x (raisedBy (shape u) u e .endpoint) k quiet (only-registers only ∙ i .same ∙ sym kept) (only .pendingLength)
       (raised-waits m (shape u) u e v p (event-range u e (soundness g ok m v r i) h)
-      ∙ ap (λ (b : Bool). waits m u v || b) (held-now e out (raisedBy (shape u) u e .answer) (event-accepted (shape u) u e)))
+      ∙ ap (λ (b : Bool). waits m u v || b) (held-now e out (raisedBy (shape u) u e .answer) (answer-accepted u (event e out))))
       (λ t. open-same g m v (x ∷ r .past) (r .past) kept ∙ held-shut x t)
     where
       x : Entry
@@ -175,8 +159,7 @@ module _ (g : Given) (ok : startRefusal g ≡ 0) (m : Mode) (v : ℕ) (r : Run) 
 
   -- every call that leaves a sound card
   pub call-law : isPin m ≡ false → (c : Call) → sound (step (r .world) c .world) ≡ true → LawOf g m v r (called r c)
-  unfolding called step answered accepted refused isAccepted
+  unfolding called step isAccepted
   call-law p c =
-      cond-elim (λ (o : Outcome). sound (o .world) ≡ true → LawOf g m v r (entered r (entryOf c (o .answer)) (o .world))) (eqb (refusal w c) 0)
-      (λ z k. accepts-call p c (eqb-true (refusal w c) 0 z) k)
-      (λ z k. refuses c (Refused (refusal w c)) refl)
+      answered-elim (λ (o : Outcome). sound (o .world) ≡ true → LawOf g m v r (entered r (entryOf c (o .answer)) (o .world))) (refusal w c) _ _
+      (λ z k. accepts-call p c z k) (λ z k. refuses c (Refused (refusal w c)) refl)

@@ -4,9 +4,6 @@ use mathlib.Core.Bool.{true, false, false≢true}
 use mathlib.Core.List.{List, []}
 use mathlib.Core.Logic.{_↔_}
 use Prim.Native.Nat.{ℕ}
-use lib.Dec.{eqb}
-use borrow.Author.Tests.{eqb-true}
-use Rattle.words.proofs.BoolLaws.{cond-elim}
 use Rattle.model.specs.declared.Mode.{Mode}
 use Rattle.model.specs.declared.Mode.the-variants.{Pin, Msi, Msix}
 use Rattle.model.specs.declared.Shape.{Shape}
@@ -17,9 +14,10 @@ use Rattle.model.specs.Vectors.{waits}
 use Rattle.model.specs.Release.{isPin}
 use Rattle.model.specs.Start.{Given, startRefusal}
 use Rattle.model.specs.Sound.{sound}
-use Rattle.model.specs.Calls.{Call, Outcome, accepted, refused, answered, step, startedWorld, startGiven, startOf, start, operate}
+use Rattle.model.specs.Calls.{Call, Outcome, step, startedWorld, startGiven, startOf, start, operate}
 use Rattle.model.specs.History.{Run, called, run, resets, openBy, heldBy, WaitsBy, isVector}
 use Rattle.model.proofs.Machine.{bit-iff}
+use Rattle.model.proofs.Refusals.{answered-elim}
 use Rattle.model.proofs.StartLaws.{started-sound, started-waits}
 use Rattle.model.proofs.HistoryRegisters.{registers-none}
 use Rattle.model.proofs.HistoryCalls.{Good}
@@ -53,13 +51,13 @@ module _ (kept : (w : World) (c : Call) → sound w ≡ true → sound (step w c
       → let g : Given = startGiven (w₀ .endpoint) config sizes events requester in
       let r : Run = run (operate w₀ (start config sizes events requester) .world) calls in
       (waits m (r .world .endpoint) v ≡ true) ↔ WaitsBy g m v (r .past)
-  unfolding operate startOf answered accepted refused isAccepted
+  unfolding operate startOf isAccepted
   waiting-history w₀ config sizes events requester a calls m v e =
-      cond-elim
+      answered-elim
       (λ (o : Outcome).
       isAccepted (o .answer) ≡ true → (waits m (run (o .world) calls .world .endpoint) v ≡ true) ↔ WaitsBy g m v (run (o .world) calls .past))
-      (eqb (startRefusal g) 0)
-      (λ z _. from-start g (eqb-true (startRefusal g) 0 z) calls m v (not-pin (shapeOf config) m v e))
+      (startRefusal g) _ _
+      (λ z _. from-start g z calls m v (not-pin (shapeOf config) m v e))
       (λ z b. absurd (false≢true b)) a
     where
       g : Given
