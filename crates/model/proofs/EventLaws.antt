@@ -1,6 +1,6 @@
 -- An event on a sound card: which vector it means, and that nothing is owed after it. Assumes nothing.
 use mathlib.Core.Path.{_≡_, refl, sym, ap, ap₂, _∙_}
-use mathlib.Core.Bool.{Bool, true, false, not, cond, _&&_, _||_, Bool·beq, false≢true, and-false}
+use mathlib.Core.Bool.{Bool, true, false, not, cond, _&&_, _||_, true≢false, and-false}
 use mathlib.Core.List.{List, [], _∷_, _++_}
 use Prim.Native.Nat.{ℕ, zero, suc, _+_, _*_, _/_, _%_, _^_, _≤_, _<_, min}
 use native.Mathlib.Nat.{mod-lt, min-le-right}
@@ -20,7 +20,7 @@ use Rattle.model.specs.declared.Shape.{Shape}
 use Rattle.model.specs.Shape.{msiPresent, msixPresent, msiVectors}
 use Rattle.model.specs.World.{World, Endpoint, Registers, registers}
 use Rattle.model.specs.Vectors.{waits, isOpen, changeWaiting, owed, vectorCount, vectorOf, granted, modeOf, enableField, msixControlBit, msiControlBit}
-use Rattle.model.specs.Release.{Raised, raise, raiseVector, raisedBy, swept, owedNow, clearAll, settleBytes, sweepBytes, wireChange, wireDueOf}
+use Rattle.model.specs.Release.{Raised, raise, raiseVector, raisedBy, swept, owedNow, clearAll, settleBytes, sweepBytes, wireChange, wireDueOf, isPin}
 use Rattle.model.specs.Sound.{givenOf, shape}
 use Rattle.model.proofs.WaitingLaws.{InRange, OnlyWaiting, only-refl, only-registers, change-only, waits-set}
 use Rattle.model.proofs.SweepLaws.{msi-present, Buffered}
@@ -48,10 +48,10 @@ unfolding granted
 granted-le s r = pow-mono (min-le-right (enableField s r) (s .msi .capable))
 
 -- it is one of the card's
-pub vector-counted : (m : Mode) (u : Endpoint) (e : ℕ) → SoundEndpoint u → e < u .function .events → modeOf (shape u) (registers u) ≡ m → (m ≡ Pin → ⊥)
+pub vector-counted : (m : Mode) (u : Endpoint) (e : ℕ) → SoundEndpoint u → e < u .function .events → modeOf (shape u) (registers u) ≡ m → isPin m ≡ false
     → vectorOf m (shape u) (registers u) e < vectorCount m (shape u)
-unfolding vectorOf vectorCount msiVectors
-vector-counted Pin u e k h q n = absurd (n refl)
+unfolding vectorOf vectorCount msiVectors isPin
+vector-counted Pin u e k h q n = absurd (true≢false n)
 vector-counted Msi u e k h q n =
     rw (msi-present (shape u) (registers u) q)
     (omega (arith, mod-lt e (granted-pos (shape u) (registers u)), granted-le (shape u) (registers u)))

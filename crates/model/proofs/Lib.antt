@@ -26,3 +26,5 @@ pub mod StartLaws
 pub mod SettleLaws
 pub mod EventLaws
 pub mod Refusals
+pub mod SoundKept
+pub mod ImageLaws

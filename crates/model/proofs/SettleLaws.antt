@@ -23,7 +23,7 @@ use Rattle.model.specs.Vectors.{waits, isOpen, changeWaiting, owed, vect
 use Rattle.model.specs.Release.{swept, owedNow, clearAll, settled, wireDue, wireDueOf}
 use Rattle.model.specs.Start.{Given, given, startRefusal}
 use Rattle.model.specs.Sound.{givenOf, shape, zeroBits, waitsBelow}
-use Rattle.model.proofs.WaitingLaws.{InRange, OnlyWaiting, only-registers}
+use Rattle.model.proofs.WaitingLaws.{InRange, waits-same, OnlyWaiting, only-registers}
 use Rattle.model.proofs.SweepLaws.{Buffered, swept-only, swept-waits}
 use Rattle.model.proofs.SoundLaws.{Accepts, accepts, buffers-fit, SoundEndpoint, Sound}
 
@@ -66,6 +66,9 @@ unfolding waitsBelow
 is-below s u b =
     and-intro (ltb (u .function .waiting) (2 ^ msiVectors s)) _ (lt-ltb (u .function .waiting) (2 ^ msiVectors s) (b .msi))
     (holds-all _ _ (λ v m. ap not (b .msix v (member-count (s .msix .vectors) (8 * length (u .pending) - s .msix .vectors) v m .0))))
+
+pub below-same : (s : Shape) (u u′ : Endpoint) → u′ .function .waiting ≡ u .function .waiting → u′ .pending ≡ u .pending → Below s u → Below s u′
+below-same s u u′ e p b = record { msi = rw e (b .msi); msix = λ v h. waits-same Msix u u′ v e p ∙ b .msix v h }
 
 -- ---- a function before it is swept: all that is asked of a sound one, but that open vectors may wait
 
