@@ -1,13 +1,13 @@
 -- The law of one call, for each call: each is refused, changes nothing, is followed by a sweep, or is a reset. Assumes nothing.
 use mathlib.Core.Path.{_≡_, refl, sym, ap, ap₂, _∙_}
 use mathlib.Core.Bool.{Bool, true, false, not, _&&_, _||_, false≢true}
-use mathlib.Core.List.{List, [], _∷_}
+use mathlib.Core.List.{List, _∷_}
 use mathlib.Core.Option.{none}
 use Prim.Native.Nat.{ℕ, _/_, _%_, _<_}
 use lib.Dec.{eqb}
 use lib.ListN.{length}
-use borrow.Author.Tests.{leb-false, not-true}
-use Rattle.words.proofs.BoolLaws.{both, passed}
+use borrow.Author.Tests.{not-true}
+use Rattle.words.proofs.BoolLaws.{both}
 use Rattle.words.specs.Bits.{bit}
 use Rattle.words.specs.Bytes.{byte, bytesOf}
 use Rattle.model.specs.declared.Mode.{Mode}
@@ -23,10 +23,11 @@ use Rattle.model.specs.Vectors.{inForce, isOpen, waits, vectorOf}
 use Rattle.model.specs.Release.{raisedBy, settled, isPin}
 use Rattle.model.specs.Start.{Given, startRefusal}
 use Rattle.model.specs.Sound.{sound, shape}
-use Rattle.model.specs.Calls.{Call, configRead, configWrite, barRead, barWrite, event, line, reset, save, Outcome, rows, changed, next, answerOf, refusal, step}
+use Rattle.model.specs.Calls.{Call, configRead, configWrite, barRead, barWrite, event, line, reset, save, Outcome, changed, next, answerOf, refusal, step}
 use Rattle.model.specs.History.{Entry, Location, Run, called, isReset, resets, puts, registersBy, openBy, meansBy, isEventFor, heldBy}
 use Rattle.model.proofs.WaitingLaws.{OnlyWaiting, only-registers}
 use Rattle.model.proofs.Refusals.{answered-elim, answer-accepted, passed-all}
+use Rattle.model.proofs.SoundKept.{event-below}
 use Rattle.model.proofs.RunningLaws.{event-range}
 use Rattle.model.proofs.RaisedLaws.{raised-only, raised-waits}
 use Rattle.model.proofs.HistoryRegisters.{registers-other, registers-configWrite, registers-barWrite, refused-resets, refused-wrote, idle-resets, idle-wrote}
@@ -52,11 +53,6 @@ waits-kept Msix u u′ v a b = ap (λ (l : List ℕ). bit (byte l (v / 8)) (v % 
 reset-resets : (out : List ℕ) → resets (entryOf (reset out) Done) ≡ true
 unfolding resets isReset isAccepted
 reset-resets out = refl
-
--- check 2 passed
-event-below : (w : World) (e : ℕ) (out : List ℕ) → refusal w (event e out) ≡ 0 → e < w .endpoint .function .events
-unfolding rows
-event-below w e out z = leb-false (w .endpoint .function .events) e (passed 2 [] refl (passed-all w (event e out) z .own) .0)
 
 module _ (g : Given) (ok : startRefusal g ≡ 0) (m : Mode) (v : ℕ) (r : Run) (i : Good g r) where
   abbrev w : World
@@ -143,7 +139,7 @@ module _ (g : Given) (ok : startRefusal g ≡ 0) (m : Mode) (v : ℕ) (r : Run) 
       (ap₂ (λ (s : Shape) (q : Registers). barWritten s q b o (bytesOf n x)) (shape-now g ok m v r i) (i .same)
       ∙ registers-barWrite g (r .past) Done refl out b o n x)
       refl (waits-kept m u (changed u (barWrite b o n x out)) v refl refl)
-  accepts-call p (event e out) z k = events p e out (event-below w e out z) k
+  accepts-call p (event e out) z k = events p e out (event-below u e out (passed-all w (event e out) z .own)) k
   accepts-call p (line level out) z k =
       writes (line level out) Done (changed u (line level out)) k refl refl
       (i .same ∙ sym (registers-other g x (r .past) (idle-resets x refl) (λ l. idle-wrote (shapeOf (g .config)) x l refl)))

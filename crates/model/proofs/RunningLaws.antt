@@ -1,6 +1,6 @@
 -- What soundness gives of the vectors: each has a waiting bit, an event means one of them, and no open one waits. Assumes nothing.
-use mathlib.Core.Path.{_≡_, sym, ap, _∙_}
-use mathlib.Core.Bool.{false, _&&_, true≢false}
+use mathlib.Core.Path.{_≡_}
+use mathlib.Core.Bool.{false, _&&_}
 use Prim.Native.Nat.{ℕ, _*_, _<_}
 use native.Mathlib.Omega.{arith}
 use lib.ListN.{length}
@@ -26,10 +26,9 @@ buffered-same s u u′ n b Msix v h = let r : v < 8 * length (u .pending) = b Ms
 
 pub event-range : (u : Endpoint) (e : ℕ) → SoundEndpoint u → e < u .function .events
     → (n : Mode) → modeOf (shape u) (registers u) ≡ n → isPin n ≡ false → InRange n u (vectorOf n (shape u) (registers u) e)
-unfolding isPin
 event-range u e k h n q p =
     buffered u (k .start) n (vectorOf n (shape u) (registers u) e)
-    (vector-counted n u e k h q (λ z. true≢false (ap isPin (sym z) ∙ p)))
+    (vector-counted n u e k h q p)
 
 pub none-owed : (m : Mode) (u : Endpoint) (v : ℕ) → SoundEndpoint u → (isOpen m (shape u) (registers u) v && waits m u v) ≡ false
 none-owed m u v k =
