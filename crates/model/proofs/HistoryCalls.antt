@@ -1,7 +1,7 @@
 -- The law of one call: the registers stay those of the past, and a vector waits if an event for it was held now, or if it waited, the call was no reset
 -- and the vector is shut. Assumes nothing.
 use mathlib.Core.Path.{_≡_, refl, sym, ap, ap₂, _∙_}
-use mathlib.Core.Bool.{Bool, true, false, not, _&&_, _||_}
+use mathlib.Core.Bool.{Bool, true, false, not, _&&_, _||_, and-false}
 use mathlib.Core.List.{_∷_}
 use mathlib.Core.Option.{none}
 use Prim.Native.Nat.{ℕ}
@@ -49,11 +49,7 @@ refused-held g m v x past e = rw e
 
 pub idle-held : (g : Given) (m : Mode) (v : ℕ) (x : Entry) (past : Past) → isEventFor g past m v (x .call) ≡ false → heldBy g m v x past ≡ false
 unfolding heldBy
-idle-held g m v x past e = rw e (no (isAccepted (x .answer)) (openBy g past m v))
-  where
-    no : (a o : Bool) → (a && false && not o) ≡ false
-    no true o = refl
-    no false o = refl
+idle-held g m v x past e = rw (e, and-false)
 
 module _ (g : Given) (ok : startRefusal g ≡ 0) (m : Mode) (v : ℕ) (r : Run) (i : Good g r) where
   abbrev u : Endpoint

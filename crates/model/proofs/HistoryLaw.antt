@@ -1,6 +1,6 @@
 -- The law of one call, for each call: each is refused, changes nothing, is followed by a sweep, or is a reset. Assumes nothing.
 use mathlib.Core.Path.{_≡_, refl, sym, ap, ap₂, _∙_}
-use mathlib.Core.Bool.{Bool, true, false, not, _&&_, _||_, false≢true}
+use mathlib.Core.Bool.{Bool, true, false, not, _&&_, _||_, false≢true, or-false}
 use mathlib.Core.List.{List, _∷_}
 use mathlib.Core.Option.{none}
 use Prim.Native.Nat.{ℕ, _/_, _%_, _<_}
@@ -35,10 +35,6 @@ use Rattle.model.proofs.HistoryCalls.{Good, entered, LawOf, open-same, 
 use Rattle.model.proofs.HistoryReset.{resetting}
 
 -- ---- each call
-
-or-false : (b : Bool) → b ≡ (b || false)
-or-false true = refl
-or-false false = refl
 
 abbrev entryOf : Call → Answer → Entry
 entryOf c a = record { call = c; answer = a }
@@ -82,7 +78,7 @@ module _ (g : Given) (ok : startRefusal g ≡ 0) (m : Mode) (v : ℕ) (r : Run) 
   writes c a u′ k e h regs n q =
       let none : heldBy g m v (entryOf c a) (r .past) ≡ false = idle-held g m v (entryOf c a) (r .past) h in
       sweeps g ok m v r i (entryOf c a) u′ k (idle-resets (entryOf c a) e) regs n
-      (q ∙ or-false (waits m u v) ∙ ap (λ (b : Bool). waits m u v || b) (sym none))
+      (q ∙ sym (or-false (waits m u v)) ∙ ap (λ (b : Bool). waits m u v || b) (sym none))
       (λ t. absurd (false≢true (sym none ∙ t)))
 
   -- an event: held exactly if it is for the vector and the vector is shut

@@ -1,6 +1,6 @@
 -- Registers by a past: at a start, and after each kind of call. Assumes nothing.
 use mathlib.Core.Path.{_≡_, refl, sym, ap, _∙_}
-use mathlib.Core.Bool.{Bool, true, false, cond, _&&_}
+use mathlib.Core.Bool.{Bool, true, false, cond, and-false}
 use mathlib.Core.List.{List, [], _∷_}
 use mathlib.Core.Option.{Option, none}
 use Prim.Native.Nat.{ℕ, _-_}
@@ -28,11 +28,7 @@ refused-wrote s x a e = rw e
 
 pub idle-resets : (x : Entry) → isReset (x .call) ≡ false → resets x ≡ false
 unfolding resets
-idle-resets x e = rw e (no (isAccepted (x .answer)))
-  where
-    no : (b : Bool) → (b && false) ≡ false
-    no true = refl
-    no false = refl
+idle-resets x e = rw (e, and-false)
 
 pub idle-wrote : (s : Shape) (x : Entry) (a : Location) → puts s (x .call) a ≡ none → wrote s x a ≡ none
 unfolding wrote

@@ -1,6 +1,6 @@
 -- What an event leaves waiting. Assumes nothing.
 use mathlib.Core.Path.{_≡_, refl, sym, ap, _∙_}
-use mathlib.Core.Bool.{Bool, true, false, not, _&&_, _||_}
+use mathlib.Core.Bool.{Bool, true, false, not, _&&_, _||_, or-false, or-true}
 use Prim.Native.Nat.{ℕ}
 use lib.Dec.{eqb}
 use borrow.Author.Tests.{eq-eqb, ne-eqb, eqb-true, eqb-false}
@@ -46,22 +46,10 @@ vector-waits n s u x v h =
     none false f = by-test (eqb x v) (λ e. sym (rw (e, f (eqb-true x v e)))) (λ e. sym (rw e))
 
     kept : (o : Bool) → (x ≡ v → waits n u v ≡ true) → waits n u v ≡ (waits n u v || (eqb x v && not o))
-    kept o f = by-test (eqb x v) (λ e. rw (f (eqb-true x v e))) (λ e. rw e (or-false (waits n u v)))
-      where
-        or-false : (b : Bool) → b ≡ (b || false)
-        or-false true = refl
-        or-false false = refl
+    kept o f = by-test (eqb x v) (λ e. rw (f (eqb-true x v e))) (λ e. rw (e, or-false))
 
     added : (x ≡ v → isOpen n s (registers u) v ≡ false) → (eqb v x || waits n u v) ≡ (waits n u v || (eqb x v && not (isOpen n s (registers u) v)))
-    added f = rw (eqb-swap x v) (by-test (eqb x v) (λ e. rw (e, f (eqb-true x v e)) (or-true (waits n u v))) (λ e. rw e (or-false (waits n u v))))
-      where
-        or-true : (b : Bool) → true ≡ (b || true)
-        or-true true = refl
-        or-true false = refl
-
-        or-false : (b : Bool) → b ≡ (b || false)
-        or-false true = refl
-        or-false false = refl
+    added f = rw (eqb-swap x v) (by-test (eqb x v) (λ e. rw (e, f (eqb-true x v e), or-true)) (λ e. rw (e, or-false)))
 
 -- a vector of another mechanism stays as it is
 vector-apart : (m n : Mode) (s : Shape) (u : Endpoint) (x v : ℕ) → sameMode m n ≡ false → waits m (raiseVector n s u x .endpoint) v ≡ waits m u v
@@ -97,10 +85,6 @@ raised-waits m s u e v p h = go (modeOf s (registers u)) refl
     Q : Mode → Type 0
     Q n = waits m (raise n s u e .endpoint) v ≡ (waits m u v || (sameMode m n && eqb (vectorOf m s r e) v && not (isOpen m s r v)))
 
-    or-false : (b : Bool) → b ≡ (b || false)
-    or-false true = refl
-    or-false false = refl
-
     not-pin : (m : Mode) → isPin m ≡ false → sameMode m Pin ≡ false
     not-pin Pin q = q
     not-pin Msi q = refl
@@ -112,9 +96,9 @@ raised-waits m s u e v p h = go (modeOf s (registers u)) refl
     vector n q k =
         by-test (sameMode m n)
         (λ f. let j : n ≡ m = in-force m n f in rw (f, ← j) (vector-waits n s u (vectorOf n s r e) v (h n q k)))
-        (λ f. rw f (vector-apart m n s u (vectorOf n s r e) v f ∙ or-false (waits m u v)))
+        (λ f. rw (f, or-false) (vector-apart m n s u (vectorOf n s r e) v f))
 
     go : (n : Mode) → modeOf s r ≡ n → Q n
-    go Pin q = rw (not-pin m p) (or-false (waits m u v))
+    go Pin q = rw (not-pin m p, or-false)
     go Msi q = vector Msi q refl
     go Msix q = vector Msix q refl
