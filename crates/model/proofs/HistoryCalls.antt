@@ -51,23 +51,24 @@ pub idle-held : (g : Given) (m : Mode) (v : ℕ) (x : Entry) (past : Past) → i
 unfolding heldBy
 idle-held g m v x past e = rw (e, and-false)
 
-module _ (g : Given) (ok : startRefusal g ≡ 0) (m : Mode) (v : ℕ) (r : Run) (i : Good g r) where
-  abbrev u : Endpoint
-  u = r .world .endpoint
-
+module _ (g : Given) (r : Run) (i : Good g r) where
   pub soundness : SoundEndpoint (r .world .endpoint)
   soundness = is-sound (r .world) (i .isSound) .endpoint
 
   -- the card's shape is that of the start's input
-  pub shape-now : shape (r .world .endpoint) ≡ shapeOf (g .config)
+  pub shape-now : startRefusal g ≡ 0 → shape (r .world .endpoint) ≡ shapeOf (g .config)
   unfolding shape
-  shape-now =
+  shape-now ok =
       ap (λ (q : Registers). shapeOf (q .config)) (i .same) ∙ shape-by g (r .past) (accepts g ok .whole) (accepts g ok .structures)
+
+module _ (g : Given) (ok : startRefusal g ≡ 0) (m : Mode) (v : ℕ) (r : Run) (i : Good g r) where
+  abbrev u : Endpoint
+  u = r .world .endpoint
 
   -- open by the past is open by the registers that the past gives
   pub open-now : (u′ : Endpoint) (past : Past) → registers u′ ≡ registersBy g past → isOpen m (shape (r .world .endpoint)) (registers u′) v ≡ openBy g past m v
   unfolding openBy
-  open-now u′ past e = ap₂ (λ (s : Shape) (q : Registers). isOpen m s q v) shape-now e
+  open-now u′ past e = ap₂ (λ (s : Shape) (q : Registers). isOpen m s q v) (shape-now g r i ok) e
 
   -- a call that changes nothing: refused, a read or a save
   pub still : (x : Entry) → resets x ≡ false → ((a : Location) → wrote (shapeOf (g .config)) x a ≡ none) → heldBy g m v x (r .past) ≡ false
@@ -78,7 +79,7 @@ module _ (g : Given) (ok : startRefusal g ≡ 0) (m : Mode) (v : ℕ) (r : Run) 
     good = record { isSound = i .isSound; same = i .same ∙ sym kept };
     wait =
         bit-stays (waits m u v) (openBy g (r .past) m v)
-        (ap (λ (b : Bool). b && waits m u v) (sym (open-now u (r .past) (i .same))) ∙ none-owed m u v soundness)
+        (ap (λ (b : Bool). b && waits m u v) (sym (open-now u (r .past) (i .same))) ∙ none-owed m u v (soundness g r i))
         ∙ sym (ap₂ (λ (a b : Bool). bitAfter a (waits m u v) b (openBy g (x ∷ r .past) m v)) h e ∙ ap (bitAfter false (waits m u v) false) (open-same g m v (x ∷ r .past) (r .past) kept));
   }
     where
@@ -97,7 +98,7 @@ module _ (g : Given) (ok : startRefusal g ≡ 0) (m : Mode) (v : ℕ) (r : Run) 
     longer = refl;
     good = record { isSound = k; same = only-registers (swept-only (shape u) u′) ∙ regs };
     wait =
-        swept-waits m (shape u) u′ v (buffered-same (shape u) u u′ n (buffered u (soundness .start)))
+        swept-waits m (shape u) u′ v (buffered-same (shape u) u u′ n (buffered u (soundness g r i .start)))
         ∙ ap₂ (λ (a b : Bool). a && not b) w (open-now u′ (x ∷ r .past) regs)
         ∙ after (waits m u v) (heldBy g m v x (r .past)) (openBy g (x ∷ r .past) m v) shut
         ∙ sym (ap (λ (b : Bool). bitAfter (heldBy g m v x (r .past)) (waits m u v) b (openBy g (x ∷ r .past) m v)) e);

@@ -87,7 +87,7 @@ module _ (g : Given) (ok : startRefusal g ≡ 0) (m : Mode) (v : ℕ) (r : Run) 
       ≡ heldBy g m v (entryOf (event e out) a) (r .past)
   unfolding heldBy isEventFor meansBy openBy
   held-now e out a t =
-      ap₂ (λ (s : Shape) (q : Registers). inForce m s q && eqb (vectorOf m s q e) v && not (isOpen m s q v)) (shape-now g ok m v r i) (i .same)
+      ap₂ (λ (s : Shape) (q : Registers). inForce m s q && eqb (vectorOf m s q e) v && not (isOpen m s q v)) (shape-now g r i ok) (i .same)
       ∙ ap (λ (b : Bool). b && meansBy g (r .past) m v e && not (openBy g (r .past) m v)) (sym t)
 
   held-shut : (x : Entry) → heldBy g m v x (r .past) ≡ true → openBy g (r .past) m v ≡ false
@@ -103,7 +103,7 @@ module _ (g : Given) (ok : startRefusal g ≡ 0) (m : Mode) (v : ℕ) (r : Run) 
   unfolding isReset puts answerOf
   events p e out h k =
       sweeps g ok m v r i x (raisedBy (shape u) u e .endpoint) k quiet (only-registers only ∙ i .same ∙ sym kept) (only .pendingLength)
-      (raised-waits m (shape u) u e v p (event-range u e (soundness g ok m v r i) h)
+      (raised-waits m (shape u) u e v p (event-range u e (soundness g r i) h)
       ∙ ap (λ (b : Bool). waits m u v || b) (held-now e out (raisedBy (shape u) u e .answer) (answer-accepted u (event e out))))
       (λ t. open-same g m v (x ∷ r .past) (r .past) kept ∙ held-shut x t)
     where
@@ -126,13 +126,13 @@ module _ (g : Given) (ok : startRefusal g ≡ 0) (m : Mode) (v : ℕ) (r : Run) 
   accepts-call p (configRead o n) z k = idles (configRead o n) (answerOf u (configRead o n)) refl (λ l. refl) refl
   accepts-call p (configWrite o n x out) z k =
       writes (configWrite o n x out) Done (changed u (configWrite o n x out)) k refl refl
-      (ap₂ (λ (s : Shape) (q : Registers). configWritten s q o (bytesOf n x)) (shape-now g ok m v r i) (i .same)
+      (ap₂ (λ (s : Shape) (q : Registers). configWritten s q o (bytesOf n x)) (shape-now g r i ok) (i .same)
       ∙ registers-configWrite g (r .past) Done refl out o n x)
       refl (waits-kept m u (changed u (configWrite o n x out)) v refl refl)
   accepts-call p (barRead b o n) z k = idles (barRead b o n) (answerOf u (barRead b o n)) refl (λ l. refl) refl
   accepts-call p (barWrite b o n x out) z k =
       writes (barWrite b o n x out) Done (changed u (barWrite b o n x out)) k refl refl
-      (ap₂ (λ (s : Shape) (q : Registers). barWritten s q b o (bytesOf n x)) (shape-now g ok m v r i) (i .same)
+      (ap₂ (λ (s : Shape) (q : Registers). barWritten s q b o (bytesOf n x)) (shape-now g r i ok) (i .same)
       ∙ registers-barWrite g (r .past) Done refl out b o n x)
       refl (waits-kept m u (changed u (barWrite b o n x out)) v refl refl)
   accepts-call p (event e out) z k = events p e out (event-below u e out (passed-all w (event e out) z .own)) k

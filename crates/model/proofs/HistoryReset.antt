@@ -33,7 +33,7 @@ resetting g ok m v r i x wire k e h = record {
   longer = refl;
   good = record { isSound = k; same = again ∙ sym (registers-reset g x (r .past) e) };
   wait =
-      started-waits (givenOf u) (soundness g ok m v r i .start) m v
+      started-waits (givenOf u) (soundness g r i .start) m v
       ∙ sym (ap₂ (λ (a b : Bool). bitAfter a (waits m u v) b (openBy g (x ∷ r .past) m v)) h e ∙ gone (waits m u v) (openBy g (x ∷ r .past) m v));
 }
   where
@@ -46,6 +46,6 @@ resetting g ok m v r i x wire k e h = record {
 
     again : registers (resetEndpoint u) ≡ startRegisters g
     again = λ j. record {
-      config = (ap₂ startedConfig (shape-now g ok m v r i) (ap (λ (q : Registers). q .config) (i .same)) ∙ restart-by g (r .past)) j;
-      table = ap (λ (s : Shape). startedTable (s .msix .vectors)) (shape-now g ok m v r i) j;
+      config = (ap₂ startedConfig (shape-now g r i ok) (ap (λ (q : Registers). q .config) (i .same)) ∙ restart-by g (r .past)) j;
+      table = ap (λ (s : Shape). startedTable (s .msix .vectors)) (shape-now g r i ok) j;
     }

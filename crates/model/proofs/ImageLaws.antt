@@ -9,19 +9,11 @@ use lib.Seq.{take-at, drop-at, drop-drop}
 use Rattle.words.specs.Lists.{join}
 use Rattle.words.specs.Bits.{bit, ofBool}
 use Rattle.words.specs.Bytes.{byte, number, word16, word32, words32, bytesOf, part}
-use Rattle.words.proofs.ByteLaws.{Below, words32-join, length-join32, number-bytesOf}
+use Rattle.words.proofs.ByteLaws.{words32-join, length-join32}
 use Rattle.model.specs.Shape.{shapeOf, tableBytes, pendingBytes}
 use Rattle.model.specs.World.{World}
+use Rattle.model.specs.Claims.{Typed}
 use Rattle.model.specs.Image.{mark, flags, cardBytes, imageOf, functionIn, worldIn}
-
--- what the declared types say of a card: 256 bytes, six sizes of 32 bits, numbers of 16 and 32 bits
-pub record Typed (w : World) : Type 0 where
-  pub config : length (w .endpoint .function .config) ≡ 256
-  pub sizes : length (w .endpoint .function .sizes) ≡ 6
-  pub small : Below (256 ^ 4) (w .endpoint .function .sizes)
-  pub events : w .endpoint .function .events < 256 ^ 2
-  pub requester : w .endpoint .function .requester < 256 ^ 2
-  pub waiting : w .endpoint .function .waiting < 256 ^ 4
 
 line-flag : (a b : Bool) → bit (ofBool a + 2 * ofBool b) 0 ≡ a
 unfolding bit ofBool

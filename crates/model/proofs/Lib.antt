@@ -28,3 +28,5 @@ pub mod EventLaws
 pub mod Refusals
 pub mod SoundKept
 pub mod ImageLaws
+pub mod ImageExact
+pub mod RestoreResumes

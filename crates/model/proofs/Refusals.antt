@@ -21,6 +21,7 @@ use Rattle.model.specs.declared.Mode.the-variants.{Pin, Msi, Msix}
 use Rattle.model.specs.Sound.{sound, shape}
 use Rattle.model.specs.Start.{Given, startRefusal}
 use Rattle.model.specs.Image.{restoreRefusal, worldIn}
+use Rattle.model.specs.Claims.{Unchanged}
 use Rattle.model.specs.Calls.{Call, Outcome, configRead, configWrite, barRead, barWrite, event, line, reset, save, rows, next, sends, answerOf, outputOf, refusal, earlierRefusal, short, badConfig, badBar, noMemory, answered, accepted, refused, step, startOf, restoreOf, startedWorld, zeroWorld}
 
 -- ---- accepted, or refused with a number
@@ -62,13 +63,6 @@ answer-accepted u (reset out) = refl
 answer-accepted u (save out) = refl
 
 -- ---- refused calls change nothing
-
--- what a refused call leaves of the world w that it was given and its output
-pub record Unchanged (w : World) (out : List ℕ) (r : Outcome) : Type 0 where
-  pub world : r .world ≡ w
-  pub output : r .output ≡ out
-  pub count : r .count ≡ 0
-  pub value : valueOf (r .answer) ≡ 0
 
 refused-so : (w : World) (n : ℕ) (out : List ℕ) → Unchanged w out (refused w n out)
 unfolding valueOf

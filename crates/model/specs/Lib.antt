@@ -12,4 +12,6 @@ pub mod Image
 pub mod Calls
 pub mod Since
 pub mod History
+pub mod Claims
+pub mod Trials
 pub mod Cases
