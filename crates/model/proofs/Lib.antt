@@ -1,3 +1,16 @@
+pub mod SinceLaws
+pub mod Machine
+pub mod HistoryBytes
+pub mod HistoryRegisters
+pub mod HistoryShape
+pub mod LatestLaws
+pub mod HistoryBits
+pub mod RaisedLaws
+pub mod RunningLaws
+pub mod HistoryCalls
+pub mod HistoryReset
+pub mod HistoryLaw
+pub mod WaitingHistory
 pub mod Starred
 pub mod WriteLaws
 pub mod CapabilityLaws

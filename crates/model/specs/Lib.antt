@@ -10,6 +10,8 @@ pub mod Start
 pub mod Sound
 pub mod Image
 pub mod Calls
+pub mod Since
+pub mod History
 pub mod Claims
 pub mod Trials
 pub mod Cases
