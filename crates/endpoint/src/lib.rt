@@ -1,0 +1,3 @@
+// One function of the card, without the wire.
+pub mod capability;
+pub mod form;
