@@ -3,3 +3,7 @@ pub mod BitLaws
 pub mod BoolLaws
 pub mod ListLaws
 pub mod ByteLaws
+pub mod NumberLaws
+pub mod PutLaws
+pub mod LowestLaws
+pub mod OnesLaws

@@ -18,12 +18,15 @@ unfoldable pub number : (ℕ → ℕ) → ℕ → ℕ → ℕ
 number f i zero = 0
 number f i (suc n) = f i + 256 * number f (suc i) n
 
--- the numbers of two and of four bytes from place i on
+-- the numbers of two, four and eight bytes from place i on
 unfoldable pub word16 : List ℕ → ℕ → ℕ
 word16 l i = number (byte l) i 2
 
 unfoldable pub word32 : List ℕ → ℕ → ℕ
 word32 l i = number (byte l) i 4
+
+unfoldable pub word64 : List ℕ → ℕ → ℕ
+word64 l i = number (byte l) i 8
 
 -- n numbers of four bytes, one behind another
 unfoldable pub words32 : ℕ → List ℕ → List ℕ
