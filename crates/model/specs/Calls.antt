@@ -15,7 +15,7 @@ use Rattle.model.specs.World.{World, Endpoint, registers, zeroFunction, 
 use Rattle.model.specs.Registers.{shown, barByte, configWritten, barWritten, inTable, inPending}
 use Rattle.model.specs.Vectors.{commandBit}
 use Rattle.model.specs.Release.{Raised, raisedBy, settled, settleBytes, wireChange}
-use Rattle.model.specs.Start.{Given, startRefusal, started}
+use Rattle.model.specs.Start.{Given, given, startRefusal, started}
 use Rattle.model.specs.Sound.{sound, shape}
 use Rattle.model.specs.Image.{imageOf, worldIn, restoreRefusal}
 
@@ -160,8 +160,7 @@ unfoldable pub zeroWorld : Endpoint → World
 zeroWorld u = record { endpoint = endpointOf zeroFunction (u .table) (u .pending); wire = false }
 
 abbrev pub startGiven : Endpoint → (config sizes : List ℕ) → (events requester : ℕ) → Given
-startGiven u config sizes events requester =
-    record { config = config; sizes = sizes; events = events; requester = requester; tableLength = length (u .table); pendingLength = length (u .pending) }
+startGiven u config sizes events requester = given config sizes events requester (length (u .table)) (length (u .pending))
 
 -- over the lent buffers of u
 unfoldable pub startOf : Endpoint → Given → Outcome

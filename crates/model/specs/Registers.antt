@@ -24,7 +24,7 @@ headerWritable i = firstOf ((0x06, eqb i 4) ∷ (0x04, eqb i 5) ∷ (0xff, eqb i
 unfoldable pub headerZero : ℕ → ℕ
 headerZero i = cond (eqb i 6) 0x08 0
 
--- ---- the MSI capability, byte k of it
+-- ---- the MSI capability, byte k of it: in the rows below the first that fits counts
 
 -- the mask bits below 2^Capable, as the four bytes of their register
 unfoldable pub maskBytes : Shape → List ℕ
@@ -41,9 +41,10 @@ unfoldable pub msiWritable : Shape → ℕ → ℕ
 msiWritable s k =
     firstOf
     ((0x71, eqb k 2)
+    ∷ (0x00, ltb k 4)
     ∷ (0xfc, eqb k 4)
-    ∷ (0xff, within 5 3 k)
-    ∷ (0xff, s .msi .wide && within 8 4 k)
+    ∷ (0xff, ltb k 8)
+    ∷ (0xff, s .msi .wide && ltb k 12)
     ∷ (0xff, within (formOf s .message) 2 k)
     ∷ (byte (maskBytes s) (k - formOf s .mask), inMask s k)
     ∷ [])
@@ -53,6 +54,7 @@ unfoldable pub msiZero : Shape → ℕ → ℕ
 msiZero s k =
     firstOf
     ((0x03, eqb k 4)
+    ∷ (0x00, ltb k 8)
     ∷ (clear (byte (maskBytes s) (k - formOf s .mask)) 0xff, inMask s k)
     ∷ (0xff, inPendingRegister s k)
     ∷ [])

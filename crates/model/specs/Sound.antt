@@ -15,20 +15,13 @@ use Rattle.model.specs.Registers.{storedZero, entryZero}
 use Rattle.model.specs.World.{World, Endpoint}
 use Rattle.model.specs.Vectors.{waits}
 use Rattle.model.specs.Release.{owedNow, wireDueOf}
-use Rattle.model.specs.Start.{Given, startRefusal}
+use Rattle.model.specs.Start.{Given, given, startRefusal}
 
 -- the shape and the buffers of a function, as a start is given them
 abbrev pub givenOf : Endpoint → Given
 givenOf u =
     let f : Function = u .function in
-    record {
-      config = f .config;
-      sizes = f .sizes;
-      events = f .events;
-      requester = f .requester;
-      tableLength = length (u .table);
-      pendingLength = length (u .pending);
-    }
+    given (f .config) (f .sizes) (f .events) (f .requester) (length (u .table)) (length (u .pending))
 
 unfoldable pub shape : Endpoint → Shape
 shape u = shapeOf (u .function .config)

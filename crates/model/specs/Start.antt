@@ -23,6 +23,10 @@ pub record Given : Type 0 where
   pub tableLength : ℕ
   pub pendingLength : ℕ
 
+abbrev pub given : (config sizes : List ℕ) → (events requester tableLength pendingLength : ℕ) → Given
+given config sizes events requester tableLength pendingLength =
+    record { config = config; sizes = sizes; events = events; requester = requester; tableLength = tableLength; pendingLength = pendingLength }
+
 -- 10: byte 0Eh low seven bits not 0, or pin (3Dh) above 4
 unfoldable pub badHeader : List ℕ → Bool
 badHeader c = not (eqb (byte c 0x0e % 128) 0) || ltb 4 (byte c 0x3d)

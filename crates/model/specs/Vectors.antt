@@ -35,6 +35,20 @@ modeOf s r =
     cond (msixPresent s && msixControlBit s r 15) Msix
     (cond (msiPresent s && msiControlBit s r 0) Msi Pin)
 
+unfoldable pub sameMode : Mode → Mode → Bool
+sameMode Pin Pin = true
+sameMode Pin Msi = false
+sameMode Pin Msix = false
+sameMode Msi Pin = false
+sameMode Msi Msi = true
+sameMode Msi Msix = false
+sameMode Msix Pin = false
+sameMode Msix Msi = false
+sameMode Msix Msix = true
+
+unfoldable pub inForce : Mode → Shape → Registers → Bool
+inForce m s r = sameMode m (modeOf s r)
+
 -- 2^(the smaller of Enable and Capable)
 unfoldable pub granted : Shape → Registers → ℕ
 granted s r = 2 ^ min (enableField s r) (s .msi .capable)
@@ -51,9 +65,9 @@ enabled Pin s r v = false
 enabled Msi s r v = ltb v (granted s r)
 enabled Msix s r v = ltb v (s .msix .vectors) && not (msixControlBit s r 14)
 
--- vector v of the mechanism m is open, where m is in force
+-- vector v of the mechanism m is open: m is in force, the vector is enabled, its mask 0, Command bit 2 set. Otherwise it is shut
 unfoldable pub isOpen : Mode → Shape → Registers → ℕ → Bool
-isOpen m s r v = enabled m s r v && not (masked m s r v) && commandBit r 2
+isOpen m s r v = inForce m s r && enabled m s r v && not (masked m s r v) && commandBit r 2
 
 -- the vector that an event means
 unfoldable pub vectorOf : Mode → Shape → Registers → ℕ → ℕ
