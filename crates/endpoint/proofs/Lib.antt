@@ -1,2 +1,4 @@
 pub mod Tables
 pub mod Walks
+pub mod Places
+pub mod ShapeFound

@@ -1,3 +1,4 @@
 // One function of the card, without the wire.
 pub mod capability;
 pub mod form;
+pub mod shape;
