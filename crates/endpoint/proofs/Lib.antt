@@ -2,3 +2,4 @@ pub mod Tables
 pub mod Walks
 pub mod Places
 pub mod ShapeFound
+pub mod Checks

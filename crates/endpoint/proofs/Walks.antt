@@ -1,14 +1,15 @@
 -- The walk of the capability list, one pointer at a time. Assumes nothing.
 use mathlib.Core.Path.{_≡_, refl, sym, ap, ap₂, _∙_}
-use mathlib.Core.Bool.{Bool, true, false, not, cond, true≢false, false≢true}
+use mathlib.Core.Bool.{Bool, true, false, not, cond, _&&_, true≢false, false≢true}
 use mathlib.Core.List.{List, [], _∷_}
 use mathlib.Core.Option.{Option, none, some}
 use Prim.Native.Nat.{ℕ, zero, suc, _+_, _-_, _≤_, _<_}
 use native.Mathlib.Omega.{arith}
 use lib.Dec.{eqb, ltb}
 use lib.ListN.{length}
-use borrow.Author.Tests.{eq-eqb, ne-eqb, lt-ltb, le-ltb}
-use Rattle.words.specs.Lists.{keep}
+use borrow.Author.Tests.{eq-eqb, ne-eqb, lt-ltb, le-ltb, eqb-true, eqb-false, ltb-true, ltb-false}
+use Rattle.words.specs.Lists.{keep, all}
+use Rattle.words.proofs.BoolLaws.{by-test}
 use Rattle.words.specs.Bits.{bit}
 use Rattle.words.specs.Bytes.{byte}
 use Rattle.model.specs.Capabilities.{pointer, walkStep, walk, capabilities, broken, listed, withId}
@@ -63,7 +64,7 @@ module _ (c : List ℕ) where
   unfolding walk
   more k p h l = rw (ne-eqb _ _ h, le-ltb _ _ l)
 
-  from-first : walk c 48 (firstPointer c) ≡ capabilities c
+  pub from-first : walk c 48 (firstPointer c) ≡ capabilities c
   unfolding capabilities firstPointer
   from-first = go (bit (byte c 6) 4) (ended 48 0 pointer-zero)
     where
@@ -155,3 +156,58 @@ module _ (c : List ℕ) (m x : Found) (n p at : ℕ) (l : Listing) (e : at ≡ p
       (ap (λ (a : ℕ). walkStep false false a (walk c (48 - (n + 1)) (byte c (a + 1)))) e
       ∙ sym (more c (48 - (n + 1)) p (λ q. z (e ∙ q)) (omega arith)) ∙ ap (λ (k : ℕ). walk c k p) (sym d))
       ∙ to-do
+
+-- ---- a test of every listed place of a list that is not broken
+
+sound-step : (f : ℕ → Bool) (a : ℕ) (w : Option (List ℕ)) → broken (walkStep false false a w) ≡ false
+    → (broken w ≡ false) × (all f (listed (walkStep false false a w)) ≡ (f a && all f (listed w)))
+unfolding walkStep broken listed all
+sound-step f a none b = absurd (true≢false b)
+sound-step f a (some l) b = (refl, refl)
+
+not-none : (w : Option (List ℕ)) → broken w ≡ false → w ≡ none → ⊥
+unfolding broken
+not-none w b e = true≢false (sym (ap broken e) ∙ b)
+
+all-none : (f : ℕ → Bool) (w : Option (List ℕ)) → w ≡ some [] → all f (listed w) ≡ true
+unfolding all listed
+all-none f w e = ap (λ (w : Option (List ℕ)). all f (listed w)) e
+
+-- the ways of a turn with k places passed and the pointer p
+module _ (c : List ℕ) (f : ℕ → Bool) (k p at : ℕ) (whole : Bool) (e : at ≡ pointer p)
+    (sound : broken (walk c (48 - k) p) ≡ false) (to-do : all f (listed (walk c (48 - k) p)) ≡ whole) where
+  pub test-ends : at ≡ 0 → whole ≡ true
+  test-ends z = sym to-do ∙ all-none f (walk c (48 - k) p) (ended c (48 - k) p (sym e ∙ z))
+
+  pub test-full : k ≡ 48 → whole ≡ true
+  test-full h =
+      by-test (eqb at 0) (λ t. test-ends (eqb-true at 0 t))
+      (λ t. absurd (not-none (walk c (48 - k) p) sound (ap (λ (k : ℕ). walk c (48 - k) p) h ∙ full c p (λ q. eqb-false at 0 t (e ∙ q)))))
+
+  high : (at ≡ 0 → ⊥) → 64 ≤ pointer p
+  high z =
+      by-test (ltb (pointer p) 64)
+      (λ t. absurd (not-none (walk c (48 - k) p) sound (low c (48 - k) p (λ q. z (e ∙ q)) (ltb-true (pointer p) 64 t))))
+      (λ t. ltb-false (pointer p) 64 t)
+
+  step-is : k < 48 → (at ≡ 0 → ⊥) → walk c (48 - k) p ≡ walkStep false false at (walk c (48 - (k + 1)) (byte c (at + 1)))
+  step-is h z =
+      let d : 48 - k ≡ suc (48 - (k + 1)) = omega arith in
+      ap (λ (k : ℕ). walk c k p) d ∙ more c (48 - (k + 1)) p (λ q. z (e ∙ q)) (high z)
+      ∙ ap (λ (a : ℕ). walkStep false false a (walk c (48 - (k + 1)) (byte c (a + 1)))) (sym e)
+
+  both-parts : k < 48 → (at ≡ 0 → ⊥)
+      → (broken (walk c (48 - (k + 1)) (byte c (at + 1))) ≡ false) × ((f at && all f (listed (walk c (48 - (k + 1)) (byte c (at + 1))))) ≡ whole)
+  both-parts h z =
+      let d = step-is h z in
+      let q = sound-step f at (walk c (48 - (k + 1)) (byte c (at + 1))) (sym (ap broken d) ∙ sound) in
+      (q .0, sym (q .1) ∙ sym (ap (λ (w : Option (List ℕ)). all f (listed w)) d) ∙ to-do)
+
+  pub test-fails : k < 48 → (at ≡ 0 → ⊥) → f at ≡ false → whole ≡ false
+  test-fails h z t = sym (both-parts h z .1) ∙ ap (λ (b : Bool). b && all f (listed (walk c (48 - (k + 1)) (byte c (at + 1))))) t
+
+  pub test-more : k < 48 → (at ≡ 0 → ⊥) → f at ≡ true
+      → (broken (walk c (48 - (k + 1)) (byte c (at + 1))) ≡ false) × (all f (listed (walk c (48 - (k + 1)) (byte c (at + 1)))) ≡ whole)
+  test-more h z t =
+      let q = both-parts h z in
+      (q .0, sym (ap (λ (b : Bool). b && all f (listed (walk c (48 - (k + 1)) (byte c (at + 1))))) t) ∙ q .1)

@@ -41,14 +41,14 @@ impl Found {
 }
 
 // A pointer without its low two bits.
-fn place(p: u8) -> usize
+pub fn place(p: u8) -> usize
     ensures { λ r. ⌜ (r ≡ pointer p) × (r < 253) ⌝ }
 {
     (p / 4 * 4) as usize
 }
 
 // Status bit 4 says that there is a list.
-fn first_pointer(c: &[u8; 256]) -> u8
+pub fn first_pointer(c: &[u8; 256]) -> u8
     ensures { λ r. ⌜ r ≡ firstPointer (now (c .entry)) ⌝ }
 {
     if c[6] / 16 % 2 == 1 { c[0x34] } else { 0 }

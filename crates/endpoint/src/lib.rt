@@ -2,3 +2,4 @@
 pub mod capability;
 pub mod form;
 pub mod shape;
+pub mod structure;
