@@ -1,15 +1,20 @@
 -- The ways out of the checks. Assumes nothing.
-use mathlib.Core.Path.{_≡_}
-use mathlib.Core.Bool.{Bool, true, false, not, _||_}
-use mathlib.Core.List.{List}
+use mathlib.Core.Path.{_≡_, refl, ap, ap₂, _∙_}
+use mathlib.Core.Bool.{Bool, true, false, not, _&&_, _||_}
+use mathlib.Core.List.{List, [], _∷_}
 use Prim.Native.Nat.{ℕ, _+_, _≤_, _<_}
 use native.Mathlib.Omega.{arith}
 use borrow.Author.Tests.{eq-eqb, ne-eqb, lt-ltb, le-ltb}
-use Rattle.words.specs.Lists.{all}
-use Rattle.model.specs.Shape.{forms, formOf, msiPresent, msixPresent}
-use Rattle.model.specs.Start.{misplaced, badStructures}
+use lib.Dec.{ltb, eqb}
+use lib.ListN.{length}
+use Rattle.words.specs.Lists.{all, overlap}
+use Rattle.model.specs.Capabilities.{capabilities, listed, broken, withId}
+use Rattle.model.specs.Shape.{forms, formOf, msiPresent, msixPresent, tableBytes, pendingBytes}
+use Rattle.model.specs.Start.{misplaced, badStructures, outside, badRegions, twice}
 use Rattle.model.specs.declared.Shape.{Shape}
-use Rattle.endpoint.specs.Checks.{apart, badMsi, badMsix, badPair}
+use Rattle.endpoint.specs.Checks.{apart, badMsi, badMsix, badPair, listedTwice}
+use Rattle.endpoint.specs.Places.{foundOf, listingIn, listingOf}
+use Rattle.endpoint.specs.declared.capability.Listing.{Listing}
 
 module _ (places : List ℕ) (a n : ℕ) where
   pub runs-past : 256 < a + n → true ≡ misplaced places a n
@@ -63,3 +68,43 @@ module _ (places : List ℕ) (s : Shape) (n : ℕ) (e : n ≡ formOf s .size) wh
 
   pub part-3 : badMsi places s n ≡ false → badMsix places s ≡ false → badPair s n ≡ badStructures places s
   part-3 h i = rw (h, i) at parts
+
+-- check 14 where MSI-X is present, of the lengths n and m of table and pending array
+module _ (sizes : List ℕ) (s : Shape) (n m : ℕ) (e : n ≡ tableBytes s) (d : m ≡ pendingBytes s) (p : s .msix .at ≡ 0 → ⊥) where
+  regions : (outside sizes (s .msix .table) n || outside sizes (s .msix .pending) m
+      || (eqb (s .msix .table .bar) (s .msix .pending .bar) && overlap (s .msix .table .at) n (s .msix .pending .at) m))
+      ≡ badRegions sizes s
+  unfolding badRegions
+  regions = rw (e, d, msix-there s p)
+
+  pub region-1 : outside sizes (s .msix .table) n ≡ true → true ≡ badRegions sizes s
+  region-1 h = rw h at regions
+
+  pub region-2 : outside sizes (s .msix .table) n ≡ false → outside sizes (s .msix .pending) m ≡ true → true ≡ badRegions sizes s
+  region-2 h i = rw (h, i) at regions
+
+  pub region-3 : outside sizes (s .msix .table) n ≡ false → outside sizes (s .msix .pending) m ≡ false
+      → (s .msix .table .bar ≡ s .msix .pending .bar → ⊥) → false ≡ badRegions sizes s
+  region-3 h i j = rw (h, i, ne-eqb _ _ j) at regions
+
+  pub region-4 : outside sizes (s .msix .table) n ≡ false → outside sizes (s .msix .pending) m ≡ false
+      → s .msix .table .bar ≡ s .msix .pending .bar → overlap (s .msix .table .at) n (s .msix .pending .at) m ≡ badRegions sizes s
+  region-4 h i j = rw (h, i, eq-eqb _ _ j) at regions
+
+-- check 12 from what the walk found
+found-length : (l : List ℕ) → foundOf l .times ≡ length l
+unfolding foundOf
+found-length [] = refl
+found-length (a ∷ l) = refl
+
+pub twice-listed : (c : List ℕ) (l : Listing) → l ≡ listingOf c → listedTwice l ≡ twice c (listed (capabilities c))
+unfolding listedTwice listingOf listingIn twice
+twice-listed c l e =
+    let places : List ℕ = listed (capabilities c) in
+    ap (λ (l : Listing). ltb 1 (l .msi .times) || ltb 1 (l .msix .times)) e
+    ∙ ap₂ (λ (m x : ℕ). ltb 1 m || ltb 1 x) (found-length (withId c places 0x05)) (found-length (withId c places 0x11))
+
+-- check 11
+pub broken-listed : (c : List ℕ) (l : Listing) → l ≡ listingOf c → l .broken ≡ broken (capabilities c)
+unfolding listingOf listingIn
+broken-listed c l e = ap (λ (l : Listing). l .broken) e

@@ -7,6 +7,7 @@ use Rattle.words.specs.Lists.{overlap}
 use Rattle.model.specs.Shape.{msiPresent, msixPresent}
 use Rattle.model.specs.Start.{misplaced}
 use Rattle.model.specs.declared.Shape.{Shape}
+use Rattle.endpoint.specs.declared.capability.Listing.{Listing}
 
 -- the header at o is the structure's own, or stands outside of its n bytes at a
 abbrev pub apart : ℕ → ℕ → ℕ → Bool
@@ -21,3 +22,7 @@ badMsix places s = msixPresent s && misplaced places (s .msix .at) 12
 
 unfoldable pub badPair : Shape → ℕ → Bool
 badPair s n = msiPresent s && msixPresent s && overlap (s .msi .at) n (s .msix .at) 12
+
+-- check 12 of what the walk found
+unfoldable pub listedTwice : Listing → Bool
+listedTwice l = ltb 1 (l .msi .times) || ltb 1 (l .msix .times)

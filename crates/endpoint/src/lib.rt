@@ -2,4 +2,5 @@
 pub mod capability;
 pub mod form;
 pub mod shape;
+pub mod start;
 pub mod structure;
