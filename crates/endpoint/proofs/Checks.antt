@@ -1,16 +1,16 @@
--- The ways out of the checks. Assumes nothing.
-use mathlib.Core.Path.{_≡_, refl, ap, ap₂, _∙_}
+-- The checks of a start: one law for each way out. Assumes nothing.
+use mathlib.Core.Path.{_≡_, refl, sym, ap, ap₂, _∙_}
 use mathlib.Core.Bool.{Bool, true, false, not, _&&_, _||_}
 use mathlib.Core.List.{List, [], _∷_}
-use Prim.Native.Nat.{ℕ, _+_, _≤_, _<_}
+use Prim.Native.Nat.{ℕ, _+_, _%_, _≤_, _<_}
 use native.Mathlib.Omega.{arith}
 use borrow.Author.Tests.{eq-eqb, ne-eqb, lt-ltb, le-ltb}
 use lib.Dec.{ltb, eqb}
 use lib.ListN.{length}
-use Rattle.words.specs.Lists.{all, overlap}
+use Rattle.words.specs.Lists.{all, overlap, firstOf}
 use Rattle.model.specs.Capabilities.{capabilities, listed, broken, withId}
-use Rattle.model.specs.Shape.{forms, formOf, msiPresent, msixPresent, tableBytes, pendingBytes}
-use Rattle.model.specs.Start.{misplaced, badStructures, outside, badRegions, twice}
+use Rattle.model.specs.Shape.{forms, formOf, msiPresent, msixPresent, tableBytes, pendingBytes, shapeOf}
+use Rattle.model.specs.Start.{Given, badHeader, misplaced, badStructures, outside, badRegions, badEvents, badBuffers, twice, startRefusal}
 use Rattle.model.specs.declared.Shape.{Shape}
 use Rattle.endpoint.specs.Checks.{apart, badMsi, badMsix, badPair, listedTwice}
 use Rattle.endpoint.specs.Places.{foundOf, listingIn, listingOf}
@@ -108,3 +108,25 @@ twice-listed c l e =
 pub broken-listed : (c : List ℕ) (l : Listing) → l ≡ listingOf c → l .broken ≡ broken (capabilities c)
 unfolding listingOf listingIn
 broken-listed c l e = ap (λ (l : Listing). l .broken) e
+
+-- the rows of a start; checks 11 and 12 are made on what the walk found
+abbrev rowsBy : Given → Bool → Bool → Shape → List (ℕ × Bool)
+rowsBy g isBroken isTwice s =
+    (10, badHeader (g .config))
+    ∷ (11, isBroken)
+    ∷ (12, isTwice)
+    ∷ (13, badStructures (listed (capabilities (g .config))) s)
+    ∷ (14, badRegions (g .sizes) s)
+    ∷ (15, badEvents (g .events) s)
+    ∷ (16, not (eqb (g .requester % 8) 0))
+    ∷ (17, badBuffers s (g .tableLength) (g .pendingLength))
+    ∷ []
+
+abbrev pub rowsOf : Given → Listing → Shape → List (ℕ × Bool)
+rowsOf g l s = rowsBy g (l .broken) (listedTwice l) s
+
+pub rows-are : (g : Given) (l : Listing) (s : Shape) → l ≡ listingOf (g .config) → s ≡ shapeOf (g .config) → startRefusal g ≡ firstOf (rowsOf g l s)
+unfolding startRefusal
+rows-are g l s le se =
+    ap (λ (s : Shape). firstOf (rowsBy g (broken (capabilities (g .config))) (twice (g .config) (listed (capabilities (g .config)))) s)) (sym se)
+    ∙ ap₂ (λ (b t : Bool). firstOf (rowsBy g b t s)) (sym (broken-listed (g .config) l le)) (sym (twice-listed (g .config) l le))

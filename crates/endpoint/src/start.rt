@@ -118,3 +118,61 @@ fn bad_buffers(s: Shape, table: usize, pending: usize) -> bool
     let m = pending_bytes(s);
     table != n || pending != m
 }
+
+// Rows 10 to 17, from what the walk found and the shape.
+fn refusal(
+    config: &[u8; 256],
+    sizes: &[u32; 6],
+    events: u16,
+    requester: u16,
+    table: usize,
+    pending: usize,
+    l: Listing,
+    s: Shape,
+) -> u8
+    requires { ⌜ (l ≡ listingOf (now config)) × (s ≡ shapeOf (now config)) × Bounded s ⌝ }
+    ensures { λ r. ⌜ r ≡ startRefusal (given (now (config .entry)) (now (sizes .entry)) events requester table pending) ⌝ }
+{
+    if bad_header(config) {
+        return 10;
+    }
+    if l.broken {
+        return 11;
+    }
+    if listed_twice(l) {
+        return 12;
+    }
+    if bad_structures(config, s) {
+        return 13;
+    }
+    if bad_regions(sizes, s) {
+        return 14;
+    }
+    if bad_events(events, s) {
+        return 15;
+    }
+    if requester % 8 != 0 {
+        return 16;
+    }
+    if bad_buffers(s, table, pending) {
+        return 17;
+    }
+    0
+}
+
+// What a start is given: the configuration, the BAR sizes, E, the requester ID, and the lengths of the lent buffers.
+pub fn check_start(
+    config: &[u8; 256],
+    sizes: &[u32; 6],
+    events: u16,
+    requester: u16,
+    table: usize,
+    pending: usize,
+) -> Checked
+    ensures { λ r. ⌜ (r .refusal ≡ startRefusal (given (now (config .entry)) (now (sizes .entry)) events requester table pending)) × (r .shape ≡ shapeOf (now (config .entry))) × Bounded (r .shape) ⌝ }
+{
+    let l = read_list(config);
+    let s = shape(config, l);
+    let refusal = refusal(config, sizes, events, requester, table, pending, l, s);
+    Checked { refusal, shape: s }
+}
