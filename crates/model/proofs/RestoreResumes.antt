@@ -18,8 +18,7 @@ use Rattle.model.specs.Answers.{isAccepted}
 use Rattle.model.specs.Shape.{shapeOf, tableBytes, pendingBytes}
 use Rattle.model.specs.Registers.{startedTable, entryWritable, written, inTable}
 use Rattle.model.specs.World.{World, Endpoint, registers}
-use Rattle.model.specs.Vectors.{modeOf, vectorOf}
-use Rattle.model.specs.Release.{raise, raiseVector, raisedBy, settled, swept}
+use Rattle.model.specs.Release.{settled, swept}
 use Rattle.model.specs.Start.{Given, startRefusal}
 use Rattle.model.specs.Sound.{sound, shape, givenOf}
 use Rattle.model.specs.Image.{imageOf, worldIn, restoreRefusal}
@@ -28,10 +27,9 @@ use Rattle.model.specs.Calls.{Call, Outcome, configRead, configWrite, ba
 use Rattle.model.specs.Trials.{worldAfter, outcomes, wroteBytes}
 use Rattle.model.proofs.WriteLaws.{length-written}
 use Rattle.model.proofs.TableLaws.{length-table}
-use Rattle.model.proofs.WaitingLaws.{OnlyWaiting, only-refl}
 use Rattle.model.proofs.SweepLaws.{swept-only}
 use Rattle.model.proofs.SoundLaws.{Accepts, accepts, buffers-fit, Sound, is-sound}
-use Rattle.model.proofs.EventLaws.{raised-kept, kept-only}
+use Rattle.model.proofs.RaisedLaws.{raised-only}
 use Rattle.model.proofs.Refusals.{answered-elim, Passed, passed-all}
 use Rattle.model.proofs.ImageExact.{restored}
 
@@ -50,16 +48,6 @@ room-settled w u t p = record {
   table = ap length (swept-only (shape (w .endpoint)) u .table) ∙ t;
   pending = swept-only (shape (w .endpoint)) u .pendingLength ∙ p;
 }
-
-raised-only : (m : Mode) (u : Endpoint) (e : ℕ) → OnlyWaiting u (raise m (shape u) u e .endpoint)
-unfolding raise
-raised-only Pin u e = only-refl u
-raised-only Msi u e = kept-only Msi u (vectorOf Msi (shape u) (registers u) e) _ (raised-kept Msi u (vectorOf Msi (shape u) (registers u) e))
-raised-only Msix u e = kept-only Msix u (vectorOf Msix (shape u) (registers u) e) _ (raised-kept Msix u (vectorOf Msix (shape u) (registers u) e))
-
-event-only : (u : Endpoint) (e : ℕ) → OnlyWaiting u (raisedBy (shape u) u e .endpoint)
-unfolding raisedBy
-event-only u e = raised-only (modeOf (shape u) (registers u)) u e
 
 -- of a start with the shape of u
 room-started : (u : Endpoint) (g : Given) → startRefusal g ≡ 0 → g .tableLength ≡ length (u .table) → g .pendingLength ≡ length (u .pending) → (wire : Bool)
@@ -82,7 +70,7 @@ room-next w (barWrite b o n x out) p =
     (cond-elim (λ (l : List ℕ). length l ≡ length (w .endpoint .table)) (inTable (shape (w .endpoint)) b o)
     (λ _. length-written entryWritable (w .endpoint .table) (o - shape (w .endpoint) .msix .table .at) (bytesOf n x)) (λ _. refl))
     refl
-room-next w (event e out) p = room-settled w _ (ap length (event-only (w .endpoint) e .table)) (event-only (w .endpoint) e .pendingLength)
+room-next w (event e out) p = room-settled w _ (ap length (raised-only (shape (w .endpoint)) (w .endpoint) e .table)) (raised-only (shape (w .endpoint)) (w .endpoint) e .pendingLength)
 room-next w (line level out) p = room-settled w _ refl refl
 room-next w (reset out) p = room-started (w .endpoint) (givenOf (w .endpoint)) (is-sound w (p .isSound) .endpoint .start) refl refl (w .wire)
 room-next w (save out) p = room-refl w

@@ -1,0 +1,5 @@
+pub mod Tables
+pub mod Walks
+pub mod Places
+pub mod ShapeFound
+pub mod Checks

@@ -1,0 +1,3 @@
+pub mod Places
+pub mod Shapes
+pub mod Checks

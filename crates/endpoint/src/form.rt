@@ -1,0 +1,41 @@
+// The four forms of the MSI capability.
+ghost use mathlib.Core.Path.{_≡_};
+ghost use Rattle.model.specs.Shape.{forms, formOf};
+use model::Form;
+use model::Shape;
+
+// By control bits 7 (64-bit) and 8 (masks).
+const FORMS: [Form; 4] = [
+    Form {
+        message: 0x08,
+        mask: 0,
+        pending: 0,
+        size: 10,
+    },
+    Form {
+        message: 0x0c,
+        mask: 0,
+        pending: 0,
+        size: 14,
+    },
+    Form {
+        message: 0x08,
+        mask: 0x0c,
+        pending: 0x10,
+        size: 20,
+    },
+    Form {
+        message: 0x0c,
+        mask: 0x10,
+        pending: 0x14,
+        size: 24,
+    },
+];
+
+// The form of a card's MSI.
+pub fn form(s: Shape) -> Form
+    ensures { λ r. ⌜ r ≡ formOf s ⌝ }
+{
+    let row = (s.msi.wide as usize) + 2 * (s.msi.masks as usize);
+    FORMS[row]
+}
