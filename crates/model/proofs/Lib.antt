@@ -32,3 +32,4 @@ pub mod ImageExact
 pub mod RestoreResumes
 pub mod PacketLaws
 pub mod BytesBound
+pub mod FitLaws

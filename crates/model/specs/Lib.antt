@@ -8,6 +8,7 @@ pub mod Packets
 pub mod Release
 pub mod Start
 pub mod Sound
+pub mod Fit
 pub mod Image
 pub mod Calls
 pub mod Since
