@@ -32,7 +32,7 @@ use Rattle.model.proofs.PacketLaws.{vector-le, change-le}
 use Rattle.model.proofs.SweepLaws.{msi-present}
 use Rattle.model.proofs.SoundLaws.{Accepts, accepts, events-fit, buffers-fit, SoundEndpoint, Sound, is-sound}
 use Rattle.model.proofs.StartLaws.{few-vectors, few-msi}
-use Rattle.model.proofs.SettleLaws.{Ready}
+use Rattle.model.specs.Ready.{Ready}
 use Rattle.model.proofs.EventLaws.{msix-present, event-bytes, Raises, raises}
 use Rattle.model.proofs.SoundKept.{ready-config, ready-bar, ready-line, event-below}
 use Rattle.model.proofs.Refusals.{answered-elim, Passed, passed-all}

@@ -25,7 +25,8 @@ use Rattle.model.specs.Sound.{givenOf, shape}
 use Rattle.model.proofs.WaitingLaws.{InRange, OnlyWaiting, only-refl, only-registers, change-only, waits-set}
 use Rattle.model.proofs.SweepLaws.{msi-present, Buffered}
 use Rattle.model.proofs.SoundLaws.{Accepts, accepts, events-fit, SoundEndpoint, Sound}
-use Rattle.model.proofs.SettleLaws.{Below, Ready, ready, ready-only, buffered, below}
+use Rattle.model.specs.Ready.{Below, Ready}
+use Rattle.model.proofs.SettleLaws.{ready, ready-only, buffered, below}
 
 -- ---- the vector of an event
 

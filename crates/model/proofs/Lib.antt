@@ -33,3 +33,4 @@ pub mod RestoreResumes
 pub mod PacketLaws
 pub mod BytesBound
 pub mod FitLaws
+pub mod CallLaws

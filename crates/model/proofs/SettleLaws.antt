@@ -23,6 +23,7 @@ use Rattle.model.specs.Vectors.{waits, isOpen, changeWaiting, owed, vect
 use Rattle.model.specs.Release.{swept, owedNow, clearAll, settled, wireDue, wireDueOf}
 use Rattle.model.specs.Start.{Given, given, startRefusal}
 use Rattle.model.specs.Sound.{givenOf, shape, zeroBits, waitsBelow}
+use Rattle.model.specs.Ready.{Below, Ready}
 use Rattle.model.proofs.WaitingLaws.{InRange, waits-same, OnlyWaiting, only-registers}
 use Rattle.model.proofs.SweepLaws.{Buffered, swept-only, swept-waits}
 use Rattle.model.proofs.SoundLaws.{Accepts, accepts, buffers-fit, SoundEndpoint, Sound}
@@ -38,10 +39,6 @@ buffered u e Msix v h =
     omega arith
 
 -- ---- no waiting bit beyond the card's vectors
-
-pub record Below (s : Shape) (u : Endpoint) : Type 0 where
-  pub msi : u .function .waiting < 2 ^ msiVectors s
-  pub msix : (v : ℕ) → s .msix .vectors ≤ v → waits Msix u v ≡ false
 
 pub below : (s : Shape) (u : Endpoint) → waitsBelow s u ≡ true → Below s u
 unfolding waitsBelow waits
@@ -70,14 +67,7 @@ is-below s u b =
 pub below-same : (s : Shape) (u u′ : Endpoint) → u′ .function .waiting ≡ u .function .waiting → u′ .pending ≡ u .pending → Below s u → Below s u′
 below-same s u u′ e p b = record { msi = rw e (b .msi); msix = λ v h. waits-same Msix u u′ v e p ∙ b .msix v h }
 
--- ---- a function before it is swept: all that is asked of a sound one, but that open vectors may wait
-
-pub record Ready (s : Shape) (u : Endpoint) : Type 0 where
-  pub shaped : shape u ≡ s
-  pub start : startRefusal (givenOf u) ≡ 0
-  pub config : zeroBits (storedZero s) (u .function .config) ≡ true
-  pub table : zeroBits entryZero (u .table) ≡ true
-  pub below : Below s u
+-- ---- a function before it is swept
 
 pub ready : (u : Endpoint) → SoundEndpoint u → Ready (shape u) u
 ready u k = record { shaped = refl; start = k .start; config = k .config; table = k .table; below = below (shape u) u (k .below) }

@@ -30,7 +30,8 @@ use Rattle.model.proofs.FixedLaws.{fixed-written}
 use Rattle.model.proofs.ZeroLaws.{disjoint, disjoint-entry, zero-written}
 use Rattle.model.proofs.SoundLaws.{Accepts, accepts, SoundEndpoint, Sound, is-sound, sound-is}
 use Rattle.model.proofs.StartLaws.{started-sound}
-use Rattle.model.proofs.SettleLaws.{Below, below-same, Ready, ready, settled-sound}
+use Rattle.model.specs.Ready.{Below, Ready}
+use Rattle.model.proofs.SettleLaws.{below-same, ready, settled-sound}
 use Rattle.model.proofs.EventLaws.{raises}
 use Rattle.model.proofs.Refusals.{answered-elim, Passed, passed-all}
 

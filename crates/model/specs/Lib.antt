@@ -9,6 +9,7 @@ pub mod Release
 pub mod Start
 pub mod Sound
 pub mod Fit
+pub mod Ready
 pub mod Image
 pub mod Calls
 pub mod Since
