@@ -1,0 +1,3 @@
+// The card: its wire, and the public calls.
+pub mod outcome;
+pub mod wire;
