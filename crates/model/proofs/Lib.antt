@@ -34,3 +34,4 @@ pub mod PacketLaws
 pub mod BytesBound
 pub mod FitLaws
 pub mod CallLaws
+pub mod BarLaws

@@ -12,7 +12,7 @@ use Rattle.words.specs.Lists.{within}
 use Rattle.words.specs.Bits.{merge, clear}
 use Rattle.words.specs.Bytes.{byte}
 use Rattle.words.proofs.BitLaws.{clear-merge}
-use Rattle.words.proofs.BoolLaws.{cond-elim}
+use Rattle.words.proofs.BoolLaws.{cond-elim, by-test}
 use Rattle.model.specs.Registers.{written}
 
 pub length-written : (mask : ℕ → ℕ) (l : List ℕ) (i : ℕ) (bs : List ℕ) → length (written mask l i bs) ≡ length l
@@ -73,3 +73,10 @@ module _ (mask : ℕ → ℕ) where
       ap (clear (mask k)) (byte-written l i bs k h)
       ∙ cond-elim (λ (x : ℕ). clear (mask k) x ≡ clear (mask k) (byte l k)) (within i (length bs) k)
       (λ _. clear-merge (mask k) (byte l k) (byte bs (k - i))) (λ _. refl)
+
+  -- a byte that the write does not reach
+  pub outside-written : (l : List ℕ) (i : ℕ) (bs : List ℕ) (k : ℕ) → (i ≤ k → k < i + length bs → ⊥) → byte (written mask l i bs) k ≡ byte l k
+  outside-written l i bs k n =
+      by-test (leb i k)
+      (λ e. by-test (ltb k (i + length bs)) (λ d. absurd (n (leb-true i k e) (ltb-true k (i + length bs) d))) (λ d. behind l i bs k (ltb-false k (i + length bs) d)))
+      (λ e. before l i bs k (leb-false i k e))

@@ -241,3 +241,23 @@ pub same-refl : (l : List ℕ) → same l l ≡ true
 unfolding same
 same-refl [] = refl
 same-refl (x ∷ l) = and-intro (eqb x x) (same l l) (eq-eqb x x refl) (same-refl l)
+
+-- ---- a test that one number at most passes
+
+single : (f : ℕ → Bool) (v i n : ℕ) → ((x : ℕ) → (x ≡ v → ⊥) → x < i + n → f x ≡ false) → i ≤ v → v < i + n → keep f (count i n) ≡ cond (f v) (v ∷ []) []
+unfolding keep count
+single f v i zero h a b = absurd (omega arith)
+single f v i (suc n) h a b =
+    by-test (eqb v i)
+    (λ e.
+    let q : v ≡ i = eqb-true v i e in
+    let r : keep f (count (suc i) n) ≡ [] =
+    keep-none f (count (suc i) n) (λ x m. let p = member-count (suc i) n x m in h x (λ z. absurd (omega arith)) (omega arith)) in
+    rw (r, q))
+    (λ e.
+    let q : v ≡ i → ⊥ = eqb-false v i e in
+    let z : f i ≡ false = h i (λ p. q (sym p)) (omega arith) in
+    rw z (single f v (suc i) n (λ x m l. h x m (omega arith)) (omega (arith, q)) (omega arith)))
+
+pub keep-here : (f : ℕ → Bool) (v n : ℕ) → ((x : ℕ) → (x ≡ v → ⊥) → x < n → f x ≡ false) → v < n → keep f (count 0 n) ≡ cond (f v) (v ∷ []) []
+keep-here f v n h l = single f v 0 n (λ x m j. h x m (omega arith)) (omega arith) (omega arith)
