@@ -8,14 +8,13 @@ use Prim.Native.Nat.{ℕ, zero, suc, _+_, _*_, _/_, _^_, _≤_, _<_, min}
 use native.Mathlib.Omega.{arith}
 use lib.Dec.{ltb, eqb}
 use lib.ListN.{length, take, drop, length-take, length-drop}
-use lib.Seq.{getD-drop}
 use native.Mathlib.Nat.{min-eq-left}
 use borrow.Author.Tests.{eqb-true, eq-eqb, le-ltb, ltb-false, not-false}
 use Rattle.words.specs.Lists.{same, firstOf}
 use Rattle.words.specs.Bytes.{byte, number, word16, word32, words32, part, bytesOf, Below, empty, more, Bytes}
 use Rattle.words.proofs.BoolLaws.{both, neither, and-intro, passed, row-passes}
 use Rattle.words.proofs.ListLaws.{same-true, same-refl}
-use Rattle.words.proofs.ByteLaws.{number-lt}
+use Rattle.words.proofs.ByteLaws.{number-lt, drop-bytes}
 use Rattle.model.specs.declared.Answer.{Answer}
 use Rattle.model.specs.declared.Answer.the-variants.{Done}
 use Rattle.model.specs.Answers.{isAccepted}
@@ -76,9 +75,6 @@ gives-back w image v k f = ap (restoreOf w) (sym (k .bytes)) ∙ restored w v (k
     room = rw held at f
 
 -- ---- an accepted image is one that its card saves
-
-drop-bytes : (k : ℕ) (l : List ℕ) → Bytes l → Bytes (drop k l)
-drop-bytes k l h i = rw (getD-drop k l i 0) (h (k + i))
 
 words-below : (n : ℕ) (l : List ℕ) → Bytes l → Below (256 ^ 4) (words32 n l)
 unfolding words32 word32

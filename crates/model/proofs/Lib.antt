@@ -35,3 +35,4 @@ pub mod BytesBound
 pub mod FitLaws
 pub mod CallLaws
 pub mod BarLaws
+pub mod ImageBack

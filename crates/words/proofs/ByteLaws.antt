@@ -5,9 +5,10 @@ use Prim.Native.Nat.{ℕ, zero, suc, _+_, _-_, _*_, _/_, _%_, _^_, _≤_, _<_}
 use native.Mathlib.Nat.{mod-lt, div-lt-iff-lt-mul, zero-lt-suc, pow-suc, zero-add}
 use native.Mathlib.Omega.{arith}
 use lib.Arith.{lt-one}
-use lib.ListN.{length, drop, getD, length-reverse}
+use lib.ListN.{length, take, drop, getD, length-reverse, length-drop, take-append-drop}
+use lib.Seq.{drop-cons, drop-drop, getD-drop}
 use Rattle.words.specs.Lists.{join}
-use Rattle.words.specs.Bytes.{byte, number, word32, words32, bytesOf, bytesHigh, Below, empty, more}
+use Rattle.words.specs.Bytes.{byte, number, word32, words32, bytesOf, bytesHigh, part, Below, empty, more, Bytes}
 
 pub length-bytesOf : (n x : ℕ) → length (bytesOf n x) ≡ n
 unfolding bytesOf
@@ -76,3 +77,44 @@ pub length-join32 : (z : List ℕ) → length (join (bytesOf 4) z) ≡ 4 * lengt
 unfolding join bytesOf
 length-join32 [] = refl
 length-join32 (x ∷ z) = let e : length (join (bytesOf 4) z) ≡ 4 * length z = length-join32 z in omega arith
+
+-- ---- bytes from their number
+
+-- the n bytes from place i on
+pub bytes-number : (l : List ℕ) → Bytes l → (i n : ℕ) → i + n ≤ length l → bytesOf n (number (byte l) i n) ≡ part i n l
+unfolding bytesOf number part
+bytes-number l b i zero h = refl
+bytes-number l b i (suc n) h =
+    let x : byte l i < 256 = b i in
+    let m : ℕ = number (byte l) (suc i) n in
+    let lo : (byte l i + 256 * m) % 256 ≡ byte l i = omega arith in
+    let hi : (byte l i + 256 * m) / 256 ≡ m = omega arith in
+    rw (lo, hi, drop-cons l i 0 (omega arith)) (ap (λ (r : List ℕ). byte l i ∷ r) (bytes-number l b (suc i) n (omega arith)))
+
+pub part-next : (l : List ℕ) (i n : ℕ) → part i n l ++ drop (i + n) l ≡ drop i l
+unfolding part
+part-next l i n = ap (λ (r : List ℕ). take n (drop i l) ++ r) (sym (drop-drop n i l)) ∙ take-append-drop n (drop i l)
+
+pub drop-bytes : (k : ℕ) (l : List ℕ) → Bytes l → Bytes (drop k l)
+drop-bytes k l h i = rw (getD-drop k l i 0) (h (k + i))
+
+take-split : (a b : ℕ) (l : List ℕ) → take a l ++ take b (drop a l) ≡ take (a + b) l
+take-split zero b l = ap (λ (n : ℕ). take n l) (sym (zero-add b))
+take-split (suc a) b [] = go b (suc a + b)
+  where
+    go : (b c : ℕ) → take b [] ≡ take {A = ℕ} c []
+    go zero zero = refl
+    go zero (suc c) = refl
+    go (suc b) zero = refl
+    go (suc b) (suc c) = refl
+take-split (suc a) b (x ∷ l) =
+    let e : suc a + b ≡ suc (a + b) = omega arith in
+    rw e (ap (λ (r : List ℕ). x ∷ r) (take-split a b l))
+
+pub join-words : (n : ℕ) (l : List ℕ) → Bytes l → 4 * n ≤ length l → join (bytesOf 4) (words32 n l) ≡ take (4 * n) l
+unfolding words32 join word32 part
+join-words zero l b h = refl
+join-words (suc n) l b h =
+    let e : 4 * suc n ≡ 4 + 4 * n = omega arith in
+    ap₂ _++_ (bytes-number l b 0 4 (omega arith)) (join-words n (drop 4 l) (drop-bytes 4 l b) (omega (arith, length-drop 4 l)))
+    ∙ take-split 4 (4 * n) l ∙ ap (λ (k : ℕ). take k l) (sym e)
