@@ -36,3 +36,4 @@ pub mod FitLaws
 pub mod CallLaws
 pub mod BarLaws
 pub mod ImageBack
+pub mod SoundTests
