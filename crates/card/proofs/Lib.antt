@@ -1,1 +1,2 @@
 pub mod WireLaws
+pub mod AccessLaws

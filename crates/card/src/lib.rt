@@ -1,3 +1,4 @@
 // The card: its wire, and the public calls.
+pub mod access;
 pub mod outcome;
 pub mod wire;
