@@ -169,7 +169,8 @@ pub fn check_start<'a>(
     table: usize,
     pending: usize,
 ) -> Checked
-    ensures { λ r. ⌜ (r .refusal ≡ startRefusal (given (now (config .entry)) (now (sizes .entry)) events requester table pending)) × (r .shape ≡ shapeOf (now (config .entry))) × Bounded (r .shape) ⌝ }
+    ensures { λ r. ⌜ (r .refusal ≡ startRefusal (given (now (config .entry)) (now (sizes .entry)) events requester table pending))
+        × (r .shape ≡ shapeOf (now (config .entry))) × Bounded (r .shape) ⌝ }
 {
     let l = read_list(config);
     let s = shape(config, l);
