@@ -19,7 +19,7 @@ use Rattle.model.specs.Registers.{writable, storedZero, fixedByte, writt
 use Rattle.model.proofs.WriteLaws.{length-written, clear-written}
 
 -- the same past the end of both lists
-everywhere : (P : ℕ → ℕ → Type 0) (l m : List ℕ) → length l ≡ length m → ((k : ℕ) → P 0 0) → (k : ℕ) → (k < length m → P (byte l k) (byte m k)) → P (byte l k) (byte m k)
+pub everywhere : (P : ℕ → ℕ → Type 0) (l m : List ℕ) → length l ≡ length m → ((k : ℕ) → P 0 0) → (k : ℕ) → (k < length m → P (byte l k) (byte m k)) → P (byte l k) (byte m k)
 everywhere P l m n z k f =
     by-test (ltb k (length m)) (λ e. f (ltb-true k (length m) e))
     (λ e.
@@ -29,7 +29,7 @@ everywhere P l m n z k f =
     rw (a, b) (z k))
 
 -- fixed bits, through another order of the masks
-fixed-clear : (s : Shape) (k x y : ℕ) → clear (writable s k) x ≡ clear (writable s k) y → fixedByte s k x ≡ fixedByte s k y
+pub fixed-clear : (s : Shape) (k x y : ℕ) → clear (writable s k) x ≡ clear (writable s k) y → fixedByte s k x ≡ fixedByte s k y
 unfolding fixedByte
 fixed-clear s k x y e =
     clear-comm (writable s k) (storedZero s k) x ∙ ap (clear (storedZero s k)) e ∙ clear-comm (storedZero s k) (writable s k) y

@@ -19,9 +19,9 @@ use Rattle.model.specs.Cases
 
 -- cases 1 to 11, byte for byte
 pub starred : T (Cases.allPass Cases.starredCases)
-unfolding Lists.count Lists.keep Lists.all Lists.member Lists.join Lists.eachAt Lists.allAt Lists.same Lists.within Lists.overlap Lists.firstOf Bits.bit Bits.field Bits.ofBool Bits.clear Bits.clearBit Bits.setBit Bits.merge Bytes.bitAt Bytes.number Bytes.word16 Bytes.word32 Bytes.words32 Bytes.bytesOf Bytes.bytesHigh Bytes.part World.zeroFunction Answers.refusalOf Answers.isAccepted Answers.valueOf Answers.eventCode Capabilities.pointer Capabilities.walkStep Capabilities.walk Capabilities.capabilities Capabilities.broken Capabilities.listed Capabilities.withId Shape.forms Shape.formOf Shape.msiAt Shape.regionAt Shape.msixAt Shape.noMsi Shape.noMsix Shape.msiOf Shape.msixOf Shape.shapeIn Shape.shapeOf Shape.msiPresent Shape.msixPresent Shape.msiVectors Shape.tableBytes Shape.pendingBytes Registers.headerWritable Registers.headerZero Registers.maskBytes Registers.inMask Registers.inPendingRegister Registers.msiWritable Registers.msiZero Registers.msixWritable Registers.inMsi Registers.inMsix Registers.writable Registers.storedZero Registers.fixedByte Registers.entryWritable Registers.entryZero Registers.written Registers.shown Registers.inRegion Registers.inTable Registers.inPending Registers.barByte Registers.configWritten Registers.barWritten Registers.startedConfig Registers.startedTable Vectors.commandBit Vectors.msiControlBit Vectors.msixControlBit Vectors.enableField Vectors.modeOf Vectors.sameMode Vectors.inForce Vectors.granted Vectors.masked Vectors.enabled Vectors.isOpen Vectors.vectorOf Vectors.waits Vectors.changeWaiting Vectors.vectorCount Vectors.owed Packets.message Packets.wireMessage Packets.msiAddress Packets.msiUpper Packets.msiData Packets.messageOf Release.pinNumber Release.isPin Release.wireDue Release.wireChange Release.clearAll Release.owedNow Release.swept Release.sweepBytes Release.wireDueOf Release.settled Release.settleBytes Release.raiseVector Release.raise Release.raisedBy Start.badHeader Start.twice Start.misplaced Start.badStructures Start.outside Start.badRegions Start.badEvents Start.badBuffers Start.startRefusal Start.started Sound.shape Sound.zeroBits Sound.waitsBelow Sound.isEmpty Sound.soundEndpoint Sound.sound Image.mark Image.flags Image.cardBytes Image.imageOf Image.functionIn Image.worldIn Image.isSaved Image.restoreRefusal Calls.refused Calls.accepted Calls.badConfig Calls.badBar Calls.noMemory Calls.rows Calls.resetEndpoint Calls.changed Calls.next Calls.sends Calls.answerOf Calls.outputOf Calls.refusal Calls.answered Calls.step Calls.startedWorld Calls.zeroWorld Calls.startOf Calls.restoreOf Calls.operate Cases.sameAnswer Cases.right Cases.follows Cases.lent Cases.passes Cases.allPass Cases.put Cases.blank Cases.cardWith Cases.msiCard Cases.wideMsiCard Cases.msixCapability Cases.msixCard Cases.bothCard Cases.sending Cases.reads Cases.raises Cases.writes Cases.entry Cases.unmask Cases.memory Cases.memoryAndBus Cases.msiSteps Cases.message32 Cases.message64 Cases.wirePacket Cases.msiCase Cases.msixCase Cases.pinCase Cases.starredCases Cases.temptingCases
+unfolding Lists.count Lists.keep Lists.all Lists.member Lists.join Lists.eachAt Lists.allAt Lists.same Lists.within Lists.overlap Lists.firstOf Lists.numbered Bits.bit Bits.field Bits.ofBool Bits.clear Bits.clearBit Bits.setBit Bits.merge Bytes.bitAt Bytes.number Bytes.word16 Bytes.word32 Bytes.words32 Bytes.bytesOf Bytes.bytesHigh Bytes.part Answers.refusalOf Answers.isAccepted Answers.valueOf Answers.eventCode Capabilities.pointer Capabilities.walkStep Capabilities.walk Capabilities.capabilities Capabilities.broken Capabilities.listed Capabilities.withId Shape.forms Shape.formOf Shape.msiAt Shape.regionAt Shape.msixAt Shape.noMsi Shape.noMsix Shape.msiOf Shape.msixOf Shape.shapeIn Shape.shapeOf Shape.msiPresent Shape.msixPresent Shape.msiVectors Shape.tableBytes Shape.pendingBytes Registers.headerWritable Registers.headerZero Registers.maskBytes Registers.inMask Registers.inPendingRegister Registers.msiWritable Registers.msiZero Registers.msixWritable Registers.inMsi Registers.inMsix Registers.writable Registers.storedZero Registers.fixedByte Registers.entryWritable Registers.entryZero Registers.written Registers.shown Registers.inRegion Registers.inTable Registers.inPending Registers.barByte Registers.startedConfig Registers.startedTable Vectors.commandBit Vectors.msiControlBit Vectors.msixControlBit Vectors.enableField Vectors.modeOf Vectors.sameMode Vectors.inForce Vectors.granted Vectors.masked Vectors.enabled Vectors.isOpen Vectors.vectorOf Vectors.waits Vectors.changeWaiting Vectors.vectorCount Vectors.owed Packets.message Packets.wireMessage Packets.msiAddress Packets.msiUpper Packets.msiData Packets.messageOf Release.pinNumber Release.isPin Release.wireDue Release.wireChange Release.clearAll Release.owedNow Release.swept Release.sweepBytes Release.settleBytes Release.raiseVector Release.raise Release.raisedBy Start.badHeader Start.twice Start.misplaced Start.badStructures Start.outside Start.badRegions Start.badEvents Start.badBuffers Start.startRefusal Sound.zeroBits Sound.waitsBelow Sound.isEmpty Sound.soundEndpoint Sound.sound Image.mark Image.flags Image.cardBytes Image.imageOf Image.functionIn Image.worldIn Image.isSaved Image.restoreRefusal Calls.isSave Calls.badConfig Calls.badBar Calls.noMemory Calls.rows Calls.changed Calls.next Calls.sends Calls.answerOf Calls.outputOf Calls.short Calls.refusal Calls.earlierRefusal Calls.answered Calls.step Calls.startOf Calls.restoreOf Calls.operate Cases.sameAnswer Cases.right Cases.follows Cases.lent Cases.passes Cases.allPass Cases.put Cases.blank Cases.cardWith Cases.msiCard Cases.wideMsiCard Cases.msixCapability Cases.msixCard Cases.bothCard Cases.sending Cases.reads Cases.raises Cases.writes Cases.entry Cases.unmask Cases.memory Cases.memoryAndBus Cases.msiSteps Cases.message32 Cases.message64 Cases.wirePacket Cases.msiCase Cases.msixCase Cases.pinCase Cases.starredCases Cases.temptingCases
 starred = tt
 
 pub tempting : T (Cases.allPass Cases.temptingCases)
-unfolding Lists.count Lists.keep Lists.all Lists.member Lists.join Lists.eachAt Lists.allAt Lists.same Lists.within Lists.overlap Lists.firstOf Bits.bit Bits.field Bits.ofBool Bits.clear Bits.clearBit Bits.setBit Bits.merge Bytes.bitAt Bytes.number Bytes.word16 Bytes.word32 Bytes.words32 Bytes.bytesOf Bytes.bytesHigh Bytes.part World.zeroFunction Answers.refusalOf Answers.isAccepted Answers.valueOf Answers.eventCode Capabilities.pointer Capabilities.walkStep Capabilities.walk Capabilities.capabilities Capabilities.broken Capabilities.listed Capabilities.withId Shape.forms Shape.formOf Shape.msiAt Shape.regionAt Shape.msixAt Shape.noMsi Shape.noMsix Shape.msiOf Shape.msixOf Shape.shapeIn Shape.shapeOf Shape.msiPresent Shape.msixPresent Shape.msiVectors Shape.tableBytes Shape.pendingBytes Registers.headerWritable Registers.headerZero Registers.maskBytes Registers.inMask Registers.inPendingRegister Registers.msiWritable Registers.msiZero Registers.msixWritable Registers.inMsi Registers.inMsix Registers.writable Registers.storedZero Registers.fixedByte Registers.entryWritable Registers.entryZero Registers.written Registers.shown Registers.inRegion Registers.inTable Registers.inPending Registers.barByte Registers.configWritten Registers.barWritten Registers.startedConfig Registers.startedTable Vectors.commandBit Vectors.msiControlBit Vectors.msixControlBit Vectors.enableField Vectors.modeOf Vectors.sameMode Vectors.inForce Vectors.granted Vectors.masked Vectors.enabled Vectors.isOpen Vectors.vectorOf Vectors.waits Vectors.changeWaiting Vectors.vectorCount Vectors.owed Packets.message Packets.wireMessage Packets.msiAddress Packets.msiUpper Packets.msiData Packets.messageOf Release.pinNumber Release.isPin Release.wireDue Release.wireChange Release.clearAll Release.owedNow Release.swept Release.sweepBytes Release.wireDueOf Release.settled Release.settleBytes Release.raiseVector Release.raise Release.raisedBy Start.badHeader Start.twice Start.misplaced Start.badStructures Start.outside Start.badRegions Start.badEvents Start.badBuffers Start.startRefusal Start.started Sound.shape Sound.zeroBits Sound.waitsBelow Sound.isEmpty Sound.soundEndpoint Sound.sound Image.mark Image.flags Image.cardBytes Image.imageOf Image.functionIn Image.worldIn Image.isSaved Image.restoreRefusal Calls.refused Calls.accepted Calls.badConfig Calls.badBar Calls.noMemory Calls.rows Calls.resetEndpoint Calls.changed Calls.next Calls.sends Calls.answerOf Calls.outputOf Calls.refusal Calls.answered Calls.step Calls.startedWorld Calls.zeroWorld Calls.startOf Calls.restoreOf Calls.operate Cases.sameAnswer Cases.right Cases.follows Cases.lent Cases.passes Cases.allPass Cases.put Cases.blank Cases.cardWith Cases.msiCard Cases.wideMsiCard Cases.msixCapability Cases.msixCard Cases.bothCard Cases.sending Cases.reads Cases.raises Cases.writes Cases.entry Cases.unmask Cases.memory Cases.memoryAndBus Cases.msiSteps Cases.message32 Cases.message64 Cases.wirePacket Cases.msiCase Cases.msixCase Cases.pinCase Cases.starredCases Cases.temptingCases
+unfolding Lists.count Lists.keep Lists.all Lists.member Lists.join Lists.eachAt Lists.allAt Lists.same Lists.within Lists.overlap Lists.firstOf Lists.numbered Bits.bit Bits.field Bits.ofBool Bits.clear Bits.clearBit Bits.setBit Bits.merge Bytes.bitAt Bytes.number Bytes.word16 Bytes.word32 Bytes.words32 Bytes.bytesOf Bytes.bytesHigh Bytes.part Answers.refusalOf Answers.isAccepted Answers.valueOf Answers.eventCode Capabilities.pointer Capabilities.walkStep Capabilities.walk Capabilities.capabilities Capabilities.broken Capabilities.listed Capabilities.withId Shape.forms Shape.formOf Shape.msiAt Shape.regionAt Shape.msixAt Shape.noMsi Shape.noMsix Shape.msiOf Shape.msixOf Shape.shapeIn Shape.shapeOf Shape.msiPresent Shape.msixPresent Shape.msiVectors Shape.tableBytes Shape.pendingBytes Registers.headerWritable Registers.headerZero Registers.maskBytes Registers.inMask Registers.inPendingRegister Registers.msiWritable Registers.msiZero Registers.msixWritable Registers.inMsi Registers.inMsix Registers.writable Registers.storedZero Registers.fixedByte Registers.entryWritable Registers.entryZero Registers.written Registers.shown Registers.inRegion Registers.inTable Registers.inPending Registers.barByte Registers.startedConfig Registers.startedTable Vectors.commandBit Vectors.msiControlBit Vectors.msixControlBit Vectors.enableField Vectors.modeOf Vectors.sameMode Vectors.inForce Vectors.granted Vectors.masked Vectors.enabled Vectors.isOpen Vectors.vectorOf Vectors.waits Vectors.changeWaiting Vectors.vectorCount Vectors.owed Packets.message Packets.wireMessage Packets.msiAddress Packets.msiUpper Packets.msiData Packets.messageOf Release.pinNumber Release.isPin Release.wireDue Release.wireChange Release.clearAll Release.owedNow Release.swept Release.sweepBytes Release.settleBytes Release.raiseVector Release.raise Release.raisedBy Start.badHeader Start.twice Start.misplaced Start.badStructures Start.outside Start.badRegions Start.badEvents Start.badBuffers Start.startRefusal Sound.zeroBits Sound.waitsBelow Sound.isEmpty Sound.soundEndpoint Sound.sound Image.mark Image.flags Image.cardBytes Image.imageOf Image.functionIn Image.worldIn Image.isSaved Image.restoreRefusal Calls.isSave Calls.badConfig Calls.badBar Calls.noMemory Calls.rows Calls.changed Calls.next Calls.sends Calls.answerOf Calls.outputOf Calls.short Calls.refusal Calls.earlierRefusal Calls.answered Calls.step Calls.startOf Calls.restoreOf Calls.operate Cases.sameAnswer Cases.right Cases.follows Cases.lent Cases.passes Cases.allPass Cases.put Cases.blank Cases.cardWith Cases.msiCard Cases.wideMsiCard Cases.msixCapability Cases.msixCard Cases.bothCard Cases.sending Cases.reads Cases.raises Cases.writes Cases.entry Cases.unmask Cases.memory Cases.memoryAndBus Cases.msiSteps Cases.message32 Cases.message64 Cases.wirePacket Cases.msiCase Cases.msixCase Cases.pinCase Cases.starredCases Cases.temptingCases
 tempting = tt

@@ -27,6 +27,13 @@ InRange Pin u v = ⊥
 InRange Msi u v = Unit {0}
 InRange Msix u v = v < 8 * length (u .pending)
 
+-- waiting bits are those of the state and of the pending array
+pub waits-same : (m : Mode) (u u′ : Endpoint) (v : ℕ) → u′ .function .waiting ≡ u .function .waiting → u′ .pending ≡ u .pending → waits m u′ v ≡ waits m u v
+unfolding waits
+waits-same Pin u u′ v e p = refl
+waits-same Msi u u′ v e p = rw e
+waits-same Msix u u′ v e p = rw p
+
 -- ---- bit x of a list of bytes after bit v was changed
 
 digit-same : (x v : ℕ) → x / 8 ≡ v / 8 → eqb (x % 8) (v % 8) ≡ eqb x v

@@ -30,6 +30,17 @@ pub data Call : Type 0 where
   reset : (out : List ℕ) → Call
   save : (out : List ℕ) → Call
 
+-- a save: its bytes are an image, those of any other call packets
+unfoldable pub isSave : Call → Bool
+isSave (configRead o n) = false
+isSave (configWrite o n x out) = false
+isSave (barRead b o n) = false
+isSave (barWrite b o n x out) = false
+isSave (event e out) = false
+isSave (line level out) = false
+isSave (reset out) = false
+isSave (save out) = true
+
 -- what a call gives: `count` bytes of the output are new
 pub record Outcome : Type 0 where
   pub world : World
@@ -38,11 +49,11 @@ pub record Outcome : Type 0 where
   pub output : List ℕ
 
 -- everything unchanged, nothing sent
-unfoldable pub refused : World → ℕ → List ℕ → Outcome
+abbrev pub refused : World → ℕ → List ℕ → Outcome
 refused w n out = record { world = w; answer = Refused n; count = 0; output = out }
 
 -- the bytes stand at the start of the output, and those behind them keep their contents
-unfoldable pub accepted : World → Answer → List ℕ → List ℕ → Outcome
+abbrev pub accepted : World → Answer → List ℕ → List ℕ → Outcome
 accepted w a bytes out = record { world = w; answer = a; count = length bytes; output = over bytes out }
 
 -- ---- "Refusals of a running card": the rows between 1 and 6
@@ -72,7 +83,7 @@ rows u (save out) = []
 -- ---- the function after an accepted call, before a waiting vector is sent
 
 -- a start with the same shape
-unfoldable pub resetEndpoint : Endpoint → Endpoint
+abbrev pub resetEndpoint : Endpoint → Endpoint
 resetEndpoint u = started (u .function .config) (u .function .sizes) (u .function .events) (u .function .requester)
 
 unfoldable pub changed : Endpoint → Call → Endpoint
@@ -135,9 +146,17 @@ outputOf (line level out) = out
 outputOf (reset out) = out
 outputOf (save out) = out
 
--- 1: card not sound; 6: output shorter than this call's packets or image
+-- 6: output shorter than this call's packets or image
+unfoldable pub short : World → Call → Bool
+short w c = ltb (length (outputOf c)) (length (sends w c))
+
+-- the refusal of a call, 0 if there is none. 1: card not sound
 unfoldable pub refusal : World → Call → ℕ
-refusal w c = firstOf ((1, not (sound w)) ∷ (rows (w .endpoint) c ++ ((6, ltb (length (outputOf c)) (length (sends w c))) ∷ [])))
+refusal w c = firstOf ((1, not (sound w)) ∷ (rows (w .endpoint) c ++ ((6, short w c) ∷ [])))
+
+-- the same without the row 6
+unfoldable pub earlierRefusal : World → Call → ℕ
+earlierRefusal w c = firstOf ((1, not (sound w)) ∷ rows (w .endpoint) c)
 
 -- refused with a number, or accepted where that is 0
 unfoldable pub answered : ℕ → (ifAccepted ifRefused : Outcome) → Outcome
@@ -152,11 +171,11 @@ step w c =
 -- ---- start and restore
 
 -- the wire inactive
-unfoldable pub startedWorld : Given → World
+abbrev pub startedWorld : Given → World
 startedWorld g = record { endpoint = started (g .config) (g .sizes) (g .events) (g .requester); wire = false }
 
 -- the two lent buffers beside a card whose fields are all 0
-unfoldable pub zeroWorld : Endpoint → World
+abbrev pub zeroWorld : Endpoint → World
 zeroWorld u = record { endpoint = endpointOf zeroFunction (u .table) (u .pending); wire = false }
 
 abbrev pub startGiven : Endpoint → (config sizes : List ℕ) → (events requester : ℕ) → Given

@@ -8,6 +8,12 @@ pub mod Packets
 pub mod Release
 pub mod Start
 pub mod Sound
+pub mod Fit
+pub mod Ready
 pub mod Image
 pub mod Calls
+pub mod Since
+pub mod History
+pub mod Claims
+pub mod Trials
 pub mod Cases

@@ -23,6 +23,10 @@ message requester upper address value =
     ++ bytesHigh 4 address
     ++ bytesOf 4 value
 
+-- its length
+unfoldable pub messageSize : (upper : ℕ) → ℕ
+messageSize upper = cond (eqb upper 0) 16 20
+
 -- the wire's packet: Assert_INTx, or Deassert_INTx
 unfoldable pub wireMessage : (requester pin : ℕ) → (active : Bool) → List ℕ
 wireMessage requester pin active =

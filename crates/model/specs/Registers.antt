@@ -125,11 +125,11 @@ barByte s u b o = cond (inTable s b o) (byte (u .table) (o - s .msix .table .at)
 
 -- ---- the registers after a write
 
-unfoldable pub configWritten : Shape → Registers → ℕ → List ℕ → Registers
+abbrev pub configWritten : Shape → Registers → ℕ → List ℕ → Registers
 configWritten s r o l = record { config = written (writable s) (r .config) o l; table = r .table }
 
 -- writes to the pending array change nothing
-unfoldable pub barWritten : Shape → Registers → ℕ → ℕ → List ℕ → Registers
+abbrev pub barWritten : Shape → Registers → ℕ → ℕ → List ℕ → Registers
 barWritten s r b o l =
     record { config = r .config; table = cond (inTable s b o) (written entryWritable (r .table) (o - s .msix .table .at) l) (r .table) }
 

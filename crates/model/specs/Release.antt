@@ -52,10 +52,10 @@ sweepBytes s u = join (messageOf (modeOf s (registers u)) s (u .function .reques
 
 -- ---- after an accepted write, line call or event: first the wire, then the vectors
 
-unfoldable pub wireDueOf : Shape → Endpoint → Bool
+abbrev pub wireDueOf : Shape → Endpoint → Bool
 wireDueOf s u = wireDue s (u .function .line) (registers u)
 
-unfoldable pub settled : Shape → Endpoint → World
+abbrev pub settled : Shape → Endpoint → World
 settled s u = record { endpoint = swept s u; wire = wireDueOf s u }
 
 unfoldable pub settleBytes : Shape → (wire : Bool) → Endpoint → List ℕ

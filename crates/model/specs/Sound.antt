@@ -23,7 +23,7 @@ givenOf u =
     let f : Function = u .function in
     given (f .config) (f .sizes) (f .events) (f .requester) (length (u .table)) (length (u .pending))
 
-unfoldable pub shape : Endpoint → Shape
+abbrev pub shape : Endpoint → Shape
 shape u = shapeOf (u .function .config)
 
 -- every byte of a list has the bits of its mask 0

@@ -86,7 +86,7 @@ startRefusal g =
     ∷ [])
 
 -- the function that a start gives, and a reset of one with this configuration: line low, nothing waiting
-unfoldable pub started : (config sizes : List ℕ) → (events requester : ℕ) → Endpoint
+abbrev pub started : (config sizes : List ℕ) → (events requester : ℕ) → Endpoint
 started config sizes events requester =
     let s : Shape = shapeOf config in
     endpointOf (functionOf (startedConfig s config) sizes events requester false 0) (startedTable (s .msix .vectors)) (replicate (pendingBytes s) 0)

@@ -57,5 +57,5 @@ withWaiting u waiting pending =
     endpointOf (functionOf (f .config) (f .sizes) (f .events) (f .requester) (f .line) waiting) (u .table) pending
 
 -- the function of a card whose fields are all 0
-unfoldable pub zeroFunction : Function
+abbrev pub zeroFunction : Function
 zeroFunction = functionOf (replicate 256 0) (replicate 6 0) 0 0 false 0

@@ -4,8 +4,8 @@ use mathlib.Core.Bool.{Bool, true, false, not, cond, _&&_, _||_, true≢false, f
 use mathlib.Core.List.{List, [], _∷_, _++_}
 use Prim.Native.Nat.{ℕ, zero, suc, _≤_, _<_}
 use lib.Dec.{T, ltb, leb, eqb}
-use borrow.Author.Tests.{eqb-true, eq-eqb, ltb-true, le-ltb}
-use Rattle.words.specs.Lists.{firstOf}
+use borrow.Author.Tests.{eq-eqb, not-true}
+use Rattle.words.specs.Lists.{firstOf, numbered}
 
 pub both : (a b : Bool) → (a && b) ≡ true → (a ≡ true) × (b ≡ true)
 both true b e = (refl, e)
@@ -71,3 +71,14 @@ row-passes n rs e = rw e
 pub row-refuses : (n : ℕ) {t : Bool} (rs : List (ℕ × Bool)) → t ≡ true → firstOf ((n, t) ∷ rs) ≡ n
 unfolding firstOf
 row-refuses n rs e = rw e
+
+-- rows, and rows behind them
+pub first-append : (l r : List (ℕ × Bool)) → numbered l ≡ true → firstOf (l ++ r) ≡ cond (eqb (firstOf l) 0) (firstOf r) (firstOf l)
+unfolding firstOf numbered
+first-append [] r e = refl
+first-append (x ∷ l) r e = go (x .1) (first-append l r (both (not (eqb (x .0) 0)) (numbered l) e .1))
+  where
+    go : (t : Bool) → firstOf (l ++ r) ≡ cond (eqb (firstOf l) 0) (firstOf r) (firstOf l)
+        → cond t (x .0) (firstOf (l ++ r)) ≡ cond (eqb (cond t (x .0) (firstOf l)) 0) (firstOf r) (cond t (x .0) (firstOf l))
+    go true h = ap (λ (b : Bool). cond b (firstOf r) (x .0)) (sym (not-true (eqb (x .0) 0) (both (not (eqb (x .0) 0)) (numbered l) e .0)))
+    go false h = h

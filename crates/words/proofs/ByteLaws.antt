@@ -7,7 +7,7 @@ use native.Mathlib.Omega.{arith}
 use lib.Arith.{lt-one}
 use lib.ListN.{length, drop, getD, length-reverse}
 use Rattle.words.specs.Lists.{join}
-use Rattle.words.specs.Bytes.{byte, number, word16, word32, words32, bytesOf, bytesHigh}
+use Rattle.words.specs.Bytes.{byte, number, word32, words32, bytesOf, bytesHigh, Below, empty, more}
 
 pub length-bytesOf : (n x : ℕ) → length (bytesOf n x) ≡ n
 unfolding bytesOf
@@ -65,11 +65,6 @@ number-bytesOf (suc n) x h =
     rw e (omega arith)
 
 -- ---- four-byte numbers one behind another
-
--- every number of a list is below a bound
-pub data Below (k : ℕ) : List ℕ → Type 0 where
-  empty : Below k []
-  more : {x : ℕ} {l : List ℕ} → x < k → Below k l → Below k (x ∷ l)
 
 pub words32-join : {z : List ℕ} (rest : List ℕ) → Below (256 ^ 4) z → words32 (length z) (join (bytesOf 4) z ++ rest) ≡ z
 unfolding words32 join bytesOf word32 number

@@ -6,4 +6,6 @@ pub mod ByteLaws
 pub mod NumberLaws
 pub mod PutLaws
 pub mod LowestLaws
+pub mod ShiftLaws
 pub mod OnesLaws
+pub mod NumberBits

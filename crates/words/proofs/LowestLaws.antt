@@ -1,12 +1,13 @@
 -- The lowest set bit: trailing zeros give it, it is one, and it is the first of the set bits `keep (bit w) (count 0 k)` of a number w of at
 -- most k bits. Assumes nothing.
 use mathlib.Core.Path.{_≡_, refl, sym, ap, _∙_}
-use mathlib.Core.Bool.{Bool, true, false, _&&_, not, false≢true}
-use mathlib.Core.List.{List, [], _∷_, _++_}
+use mathlib.Core.Bool.{Bool, true, false, _&&_, false≢true}
+use mathlib.Core.List.{List, [], _∷_}
 use Prim.Native.Nat.{ℕ, zero, suc, _+_, _-_, _*_, _/_, _%_, _^_, _≤_, _<_}
-use native.Mathlib.Nat.{pow-suc, zero-add}
+use native.Mathlib.Nat.{pow-suc, zero-add, one-mul}
 use native.Mathlib.Omega.{arith}
 use lib.Dec.{eqb, ltb}
+use lib.Pow.{pow-pos, shl-exact}
 use lib.Bits.{bitAnd, and-le-r}
 use lib.Count.{trailingZeros, under}
 use borrow.Author.Tests.{eq-eqb, ne-eqb, eqb-true, ltb-true, ltb-false}
@@ -15,7 +16,7 @@ use Rattle.words.specs.Bits.{bit, clear, clearBit}
 use Rattle.words.specs.Lowest.{Lowest}
 use Rattle.words.proofs.BoolLaws.{by-test}
 use Rattle.words.proofs.BitLaws.{bit-zero, bit-suc, bit-and, bit-power, bit-cleared, bits-ext, bit-above}
-use Rattle.words.proofs.ListLaws.{Holds, keep-same, keep-none, keep-append, count-append, member-count}
+use Rattle.words.proofs.ListLaws.{keep-same, keep-none, keep-append, count-append, member-count}
 
 -- ---- trailing zeros
 
@@ -70,6 +71,13 @@ power-le w v e = omega (arith, power-in w v e, and-le-r (2 ^ v) w)
 pub clear-set : (w v : ℕ) → bit w v ≡ true → clearBit w v ≡ w - 2 ^ v
 unfolding clearBit clear
 clear-set w v e = ap (λ (n : ℕ). w - n) (power-in w v e)
+
+pub clear-less : (w v : ℕ) → bit w v ≡ true → clearBit w v < w
+clear-less w v e = rw (clear-set w v e) (omega (arith, power-le w v e, pow-pos v))
+
+-- `1 << v` in k bits
+pub one-shl : (k v : ℕ) → v < k → (1 * 2 ^ v) % 2 ^ k ≡ 2 ^ v
+one-shl k v h = shl-exact 1 v k (omega arith) (omega arith) ∙ one-mul (2 ^ v)
 
 -- ---- the set bits in rising order
 

@@ -1,29 +1,19 @@
 -- The number of set bits, at every width: `ones` counts them, and 0 has none. Assumes nothing.
 use mathlib.Core.Path.{_≡_, refl, sym, ap, _∙_}
-use mathlib.Core.Bool.{Bool, true, false, cond}
+use mathlib.Core.Bool.{cond}
 use mathlib.Core.List.{List, [], _∷_}
 use Prim.Native.Nat.{ℕ, zero, suc, _+_, _*_, _/_, _%_, _^_, _<_}
 use native.Mathlib.Nat.{pow-suc}
 use native.Mathlib.Omega.{arith}
-use lib.ListN.{length}
+use native.Mathlib.Numerals.{one-add}
+use lib.ListN.{length, length-map}
 use lib.Dec.{eqb}
 use lib.Count.{ones, ones-step}
 use Rattle.words.specs.Lists.{count, keep}
 use Rattle.words.specs.Bits.{bit}
 use Rattle.words.proofs.BitLaws.{bit-zero, bit-suc, bit-of-zero}
 use Rattle.words.proofs.ListLaws.{keep-same, keep-none}
-
--- as many numbers from i + 1 on pass f as from i on pass f one higher
-shifted : (f : ℕ → Bool) (i k : ℕ) → length (keep f (count (suc i) k)) ≡ length (keep (λ j. f (suc j)) (count i k))
-unfolding count keep
-shifted f i zero = refl
-shifted f i (suc k) = go (f (suc i)) (shifted f (suc i) k)
-  where
-    go : (b : Bool) → length (keep f (count (suc (suc i)) k)) ≡ length (keep (λ j. f (suc j)) (count (suc i) k))
-        → length (cond b (suc i ∷ keep f (count (suc (suc i)) k)) (keep f (count (suc (suc i)) k)))
-        ≡ length (cond b (i ∷ keep (λ j. f (suc j)) (count (suc i) k)) (keep (λ j. f (suc j)) (count (suc i) k)))
-    go true e = ap suc e
-    go false e = e
+use Rattle.words.proofs.ShiftLaws.{keep-shift}
 
 by-digit : (d i : ℕ) (l : List ℕ) → d < 2 → length (cond (eqb d 1) (i ∷ l) l) ≡ d + length l
 by-digit zero i l h = omega arith
@@ -42,8 +32,9 @@ length-set-bits (suc k) w h =
     rw (bit-zero w)
     (by-digit (w % 2) 0 (keep (bit w) (count 1 k)) (omega arith)
     ∙ ap (λ (n : ℕ). w % 2 + n)
-    (shifted (bit w) 0 k
-    ∙ ap length (keep-same (λ j. bit w (suc j)) (bit (w / 2)) (count 0 k) (λ j m. bit-suc w j))
+    (ap length (keep-shift (bit w) 1 0 k)
+    ∙ length-map (keep (λ j. bit w (1 + j)) (count 0 k)) (λ j. 1 + j)
+    ∙ ap length (keep-same (λ j. bit w (1 + j)) (bit (w / 2)) (count 0 k) (λ j m. rw one-add (bit-suc w j)))
     ∙ length-set-bits k (w / 2) (omega arith))
     ∙ sym (ones-step w))
 

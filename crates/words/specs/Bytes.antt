@@ -1,9 +1,14 @@
 -- Numbers in lists of bytes. Assumes nothing.
 use mathlib.Core.Bool.{Bool}
 use mathlib.Core.List.{List, [], _∷_, reverse}
-use Prim.Native.Nat.{ℕ, zero, suc, _+_, _*_, _/_, _%_}
+use Prim.Native.Nat.{ℕ, zero, suc, _+_, _*_, _/_, _%_, _<_}
 use lib.ListN.{take, drop, getD}
 use Rattle.words.specs.Bits.{bit}
+
+-- every number of a list is below a bound
+pub data Below (k : ℕ) : List ℕ → Type 0 where
+  empty : Below k []
+  more : {x : ℕ} {l : List ℕ} → x < k → Below k l → Below k (x ∷ l)
 
 -- byte i of a list, 0 past its end
 abbrev pub byte : List ℕ → ℕ → ℕ
@@ -44,3 +49,7 @@ bytesHigh n x = reverse (bytesOf n x)
 -- the n bytes from place i on
 unfoldable pub part : ℕ → ℕ → List ℕ → List ℕ
 part i n l = take n (drop i l)
+
+-- each place of a list holds a byte
+abbrev pub Bytes : List ℕ → Type 0
+Bytes l = (i : ℕ) → byte l i < 256

@@ -1,5 +1,5 @@
 -- Small functions on lists of numbers. Assumes nothing.
-use mathlib.Core.Bool.{Bool, true, false, cond, _&&_, _||_}
+use mathlib.Core.Bool.{Bool, true, false, not, cond, _&&_, _||_}
 use mathlib.Core.List.{List, [], _∷_, _++_}
 use Prim.Native.Nat.{ℕ, zero, suc, _+_}
 use lib.Dec.{ltb, leb, eqb}
@@ -58,3 +58,8 @@ overlap a n b m = ltb a (b + m) && ltb b (a + n)
 unfoldable pub firstOf : List (ℕ × Bool) → ℕ
 firstOf [] = 0
 firstOf (r ∷ rs) = cond (r .1) (r .0) (firstOf rs)
+
+-- no row has the number 0
+unfoldable pub numbered : List (ℕ × Bool) → Bool
+numbered [] = true
+numbered (r ∷ rs) = not (eqb (r .0) 0) && numbered rs

@@ -1,0 +1,74 @@
+-- A start that accepts, and so a sound card, has structures inside the 256 bytes, at most 2,048 vectors and buffers that fit. Assumes nothing.
+use mathlib.Core.Path.{_≡_, refl, sym, ap, _∙_}
+use mathlib.Core.Bool.{Bool, true, false, not, true≢false}
+use mathlib.Core.List.{List, [], _∷_}
+use Prim.Native.Nat.{ℕ, _+_, _≤_}
+use native.Mathlib.Omega.{arith}
+use lib.Dec.{ltb, eqb}
+use lib.ListN.{length}
+use borrow.Author.Tests.{eqb-true, ne-eqb, ltb-false, not-false}
+use Rattle.words.proofs.BoolLaws.{by-test}
+use Rattle.model.specs.declared.Form.{Form}
+use Rattle.model.specs.declared.Shape.{Shape}
+use Rattle.model.specs.Capabilities.{capabilities, listed, withId}
+use Rattle.model.specs.Shape.{shapeOf, shapeIn, formOf, forms, msiOf, msiAt, noMsi, msiPresent, msixPresent, tableBytes, pendingBytes}
+use Rattle.model.specs.World.{World, Endpoint}
+use Rattle.model.specs.Start.{Given}
+use Rattle.model.specs.Sound.{sound, shape, givenOf}
+use Rattle.model.specs.Fit.{Fit}
+use Rattle.model.proofs.CapabilityLaws.{first-high}
+use Rattle.model.proofs.PlaceLaws.{Placed, placed, fits-config}
+use Rattle.model.proofs.SoundLaws.{Accepts, accepts, buffers-fit, is-sound}
+use Rattle.model.proofs.StartLaws.{few-vectors}
+
+size-small : (s : Shape) → formOf s .size ≤ 24
+unfolding formOf forms
+size-small s = go (s .msi .masks) (s .msi .wide)
+  where
+    go : (m w : Bool) → forms m w .size ≤ 24
+    go false false = omega arith
+    go false true = omega arith
+    go true false = omega arith
+    go true true = omega arith
+
+-- without MSI its shape is all 0
+absent : (c l : List ℕ) → withId c (listed (capabilities c)) 0x05 ≡ l → not (eqb (msiOf c l .at) 0) ≡ false → msiOf c l .capable ≡ 0
+unfolding msiOf msiAt noMsi
+absent c [] e p = refl
+absent c (a ∷ r) e p =
+    let h : 64 ≤ a = first-high c 0x05 a r e in
+    absurd (true≢false (sym (ap not (ne-eqb a 0 (omega arith))) ∙ p))
+
+msi-absent : (c : List ℕ) → msiPresent (shapeOf c) ≡ false → shapeOf c .msi .capable ≡ 0
+unfolding msiPresent shapeOf shapeIn
+msi-absent c = absent c (withId c (listed (capabilities c)) 0x05) refl
+
+at-zero : (n : ℕ) → not (eqb n 0) ≡ false → n ≡ 0
+at-zero n e = eqb-true n 0 (not-false (eqb n 0) e)
+
+pub fit : (g : Given) → Accepts g → Fit (shapeOf (g .config)) (g .tableLength) (g .pendingLength)
+unfolding msiPresent msixPresent
+fit g ok = record {
+  msi =
+      by-test (msiPresent (shapeOf (g .config))) (λ p. fits-config (listed (capabilities (g .config))) (shapeOf (g .config) .msi .at) (formOf (shapeOf (g .config)) .size) (k .msi p))
+      (λ p. omega (arith, at-zero (shapeOf (g .config) .msi .at) p, size-small (shapeOf (g .config))));
+  capable =
+      by-test (msiPresent (shapeOf (g .config))) (λ p. ltb-false 5 (shapeOf (g .config) .msi .capable) (k .few p))
+      (λ p. omega (arith, msi-absent (g .config) p));
+  msix =
+      by-test (msixPresent (shapeOf (g .config))) (λ p. fits-config (listed (capabilities (g .config))) (shapeOf (g .config) .msix .at) 12 (k .msix p))
+      (λ p. omega (arith, at-zero (shapeOf (g .config) .msix .at) p));
+  few = few-vectors g ok;
+  table = b .0;
+  pending = b .1;
+}
+  where
+    k : Placed (listed (capabilities (g .config))) (shapeOf (g .config))
+    k = placed (listed (capabilities (g .config))) (shapeOf (g .config)) (ok .structures)
+
+    b : (g .tableLength ≡ tableBytes (shapeOf (g .config))) × (g .pendingLength ≡ pendingBytes (shapeOf (g .config)))
+    b = buffers-fit (shapeOf (g .config)) (g .tableLength) (g .pendingLength) (ok .buffers)
+
+-- of a sound card
+pub sound-fit : (w : World) → sound w ≡ true → Fit (shape (w .endpoint)) (length (w .endpoint .table)) (length (w .endpoint .pending))
+sound-fit w s = fit (givenOf (w .endpoint)) (accepts (givenOf (w .endpoint)) (is-sound w s .endpoint .start))

@@ -1,0 +1,143 @@
+-- Demand 3, second part: whatever was called in between, a restore of a saved image resumes as if at once after the save. Assumes nothing.
+use mathlib.Core.Path.{_≡_, refl, sym, ap, ap₂, _∙_}
+use mathlib.Core.Bool.{Bool, true, false, not, cond, _&&_, true≢false, false≢true}
+use mathlib.Core.List.{List, [], _∷_, _++_}
+use Prim.Native.Nat.{ℕ, _-_, _*_}
+use lib.Dec.{ltb, eqb}
+use lib.ListN.{length, take, replicate, length-replicate}
+use lib.Seq.{take-append-seam}
+use borrow.Author.Tests.{eqb-true, not-false}
+use Rattle.words.specs.Lists.{firstOf}
+use Rattle.words.specs.Bytes.{bytesOf}
+use Rattle.words.proofs.BoolLaws.{neither, passed, cond-elim}
+use Rattle.model.specs.declared.Mode.{Mode}
+use Rattle.model.specs.declared.Mode.the-variants.{Pin, Msi, Msix}
+use Rattle.model.specs.declared.Answer.{Answer}
+use Rattle.model.specs.declared.Answer.the-variants.{Done}
+use Rattle.model.specs.Answers.{isAccepted}
+use Rattle.model.specs.Shape.{shapeOf, tableBytes, pendingBytes}
+use Rattle.model.specs.Registers.{startedTable, entryWritable, written, inTable}
+use Rattle.model.specs.World.{World, Endpoint, registers}
+use Rattle.model.specs.Release.{settled, swept}
+use Rattle.model.specs.Start.{Given, startRefusal}
+use Rattle.model.specs.Sound.{sound, shape, givenOf}
+use Rattle.model.specs.Image.{imageOf, worldIn, restoreRefusal}
+use Rattle.model.specs.Claims.{Typed, SameRoom}
+use Rattle.model.specs.Calls.{Call, Outcome, configRead, configWrite, barRead, barWrite, event, line, reset, save, next, changed, sends, refusal, accepted, step, startOf, startGiven, startedWorld, zeroWorld, restoreOf, Operation, call, start, restore, operate}
+use Rattle.model.specs.Trials.{worldAfter, outcomes, wroteBytes}
+use Rattle.model.proofs.WriteLaws.{length-written}
+use Rattle.model.proofs.TableLaws.{length-table}
+use Rattle.model.proofs.SweepLaws.{swept-only}
+use Rattle.model.proofs.SoundLaws.{Accepts, accepts, buffers-fit, Sound, is-sound}
+use Rattle.model.proofs.RaisedLaws.{raised-only}
+use Rattle.model.proofs.Refusals.{answered-elim, Passed, passed-all}
+use Rattle.model.proofs.ImageExact.{restored}
+
+-- ---- no call changes the lengths of the lent buffers
+
+room-refl : (w : World) → SameRoom w w
+room-refl w = record { table = refl; pending = refl }
+
+room-trans : {u v w : World} → SameRoom u v → SameRoom v w → SameRoom u w
+room-trans p q = record { table = p .table ∙ q .table; pending = p .pending ∙ q .pending }
+
+-- of a function that is then swept
+room-settled : (w : World) (u : Endpoint) → length (u .table) ≡ length (w .endpoint .table) → length (u .pending) ≡ length (w .endpoint .pending)
+    → SameRoom (settled (shape (w .endpoint)) u) w
+room-settled w u t p = record {
+  table = ap length (swept-only (shape (w .endpoint)) u .table) ∙ t;
+  pending = swept-only (shape (w .endpoint)) u .pendingLength ∙ p;
+}
+
+-- of a start with the shape of u
+room-started : (u : Endpoint) (g : Given) → startRefusal g ≡ 0 → g .tableLength ≡ length (u .table) → g .pendingLength ≡ length (u .pending) → (wire : Bool)
+    → SameRoom (startedWorld g) (record { endpoint = u; wire = wire })
+unfolding tableBytes
+room-started u g ok t p wire =
+    let b = buffers-fit (shapeOf (g .config)) (g .tableLength) (g .pendingLength) (accepts g ok .buffers) in
+    record {
+      table = length-table (shapeOf (g .config) .msix .vectors) ∙ sym (b .0) ∙ t;
+      pending = length-replicate {A = ℕ} (pendingBytes (shapeOf (g .config))) 0 ∙ sym (b .1) ∙ p;
+    }
+
+room-next : (w : World) (c : Call) → Passed w c → SameRoom (next w c) w
+unfolding next changed
+room-next w (configRead o n) p = room-refl w
+room-next w (configWrite o n x out) p = room-settled w _ refl refl
+room-next w (barRead b o n) p = room-refl w
+room-next w (barWrite b o n x out) p =
+    room-settled w _
+    (cond-elim (λ (l : List ℕ). length l ≡ length (w .endpoint .table)) (inTable (shape (w .endpoint)) b o)
+    (λ _. length-written entryWritable (w .endpoint .table) (o - shape (w .endpoint) .msix .table .at) (bytesOf n x)) (λ _. refl))
+    refl
+room-next w (event e out) p = room-settled w _ (ap length (raised-only (shape (w .endpoint)) (w .endpoint) e .table)) (raised-only (shape (w .endpoint)) (w .endpoint) e .pendingLength)
+room-next w (line level out) p = room-settled w _ refl refl
+room-next w (reset out) p = room-started (w .endpoint) (givenOf (w .endpoint)) (is-sound w (p .isSound) .endpoint .start) refl refl (w .wire)
+room-next w (save out) p = room-refl w
+
+room-step : (w : World) (c : Call) → SameRoom (step w c .world) w
+unfolding step
+room-step w c =
+    answered-elim (λ (r : Outcome). SameRoom (r .world) w) (refusal w c) _ _ (λ e. room-next w c (passed-all w c e)) (λ _. room-refl w)
+
+-- of a restore that row 17 lets pass
+room-restored : (w : World) (image : List ℕ) → restoreRefusal image (length (w .endpoint .table)) (length (w .endpoint .pending)) ≡ 0 → SameRoom (worldIn image) w
+unfolding restoreRefusal
+room-restored w image e =
+    let r17 = passed 17 _ refl (passed 22 _ refl (passed 21 _ refl (passed 20 _ refl e .1) .1) .1) .0 in
+    let t : ℕ = length (w .endpoint .table) in
+    let p : ℕ = length (w .endpoint .pending) in
+    let n = neither (not (eqb t (length (worldIn image .endpoint .table)))) (not (eqb p (length (worldIn image .endpoint .pending)))) r17 in
+    record {
+      table = sym (eqb-true t (length (worldIn image .endpoint .table)) (not-false (eqb t (length (worldIn image .endpoint .table))) (n .0)));
+      pending = sym (eqb-true p (length (worldIn image .endpoint .pending)) (not-false (eqb p (length (worldIn image .endpoint .pending))) (n .1)));
+    }
+
+room-operate : (w : World) (o : Operation) → SameRoom (operate w o .world) w
+unfolding operate startOf restoreOf
+room-operate w (call c) = room-step w c
+room-operate w (start config sizes events requester) =
+    answered-elim (λ (r : Outcome). SameRoom (r .world) w) _ _ _
+    (λ e. room-started (w .endpoint) (startGiven (w .endpoint) config sizes events requester) e refl refl (w .wire))
+    (λ _. record { table = refl; pending = refl })
+room-operate w (restore image) = answered-elim (λ (r : Outcome). SameRoom (r .world) w) _ _ _ (room-restored w image) (λ _. room-refl w)
+
+pub room-after : (w : World) (os : List Operation) → SameRoom (worldAfter w os) w
+unfolding worldAfter
+room-after w [] = room-refl w
+room-after w (o ∷ os) = room-trans (room-after (operate w o .world) os) (room-operate w o)
+
+-- ---- an accepted save
+
+pub record Saved (w : World) (r : Outcome) : Type 0 where
+  pub isSound : sound w ≡ true
+  pub kept : r .world ≡ w
+  pub image : wroteBytes r ≡ imageOf w
+
+save-saved : (w : World) (out : List ℕ) → isAccepted (step w (save out) .answer) ≡ true → Saved w (step w (save out))
+unfolding step next sends wroteBytes isAccepted
+save-saved w out =
+    answered-elim (λ (r : Outcome). isAccepted (r .answer) ≡ true → Saved w r) (refusal w (save out)) _ _
+    (λ e _. record { isSound = passed-all w (save out) e .isSound; kept = refl; image = take-append-seam (imageOf w) _ })
+    (λ _ e. absurd (false≢true e))
+
+-- ---- the theorem
+
+-- an accepted save of any card, then any list of calls, starts and restores among them, then a restore of exactly the bytes that the save wrote,
+-- over the same buffers: it is accepted, card and buffers are those after the save, and every list of calls that follows gives the same outcomes
+pub restore-resumes : (w : World) → Typed w → (out : List ℕ) → isAccepted (operate w (call (save out)) .answer) ≡ true → (between : List Operation)
+    → let saved : Outcome = operate w (call (save out)) in
+    let back : Outcome = operate (worldAfter (saved .world) between) (restore (wroteBytes saved)) in
+    (isAccepted (back .answer) ≡ true) × (back .world ≡ saved .world) × ((rest : List Operation) → outcomes (back .world) rest ≡ outcomes (saved .world) rest)
+unfolding operate isAccepted
+restore-resumes w t out a between = (
+  ap (λ (r : Outcome). isAccepted (r .answer)) is,
+  ap (λ (r : Outcome). r .world) is ∙ sym (k .kept),
+  λ rest. ap (λ (r : Outcome). outcomes (r .world) rest) is ∙ ap (λ (v : World). outcomes v rest) (sym (k .kept)),
+)
+  where
+    k : Saved w (step w (save out))
+    k = save-saved w out a
+
+    is : restoreOf (worldAfter (step w (save out) .world) between) (wroteBytes (step w (save out))) ≡ accepted w Done [] []
+    is = rw (k .image, k .kept) (restored (worldAfter w between) w t (k .isSound) (room-after w between))

@@ -1,0 +1,63 @@
+-- Demand 3, first part: a waiting bit is never lost, over every list of calls. Assumes nothing.
+use mathlib.Core.Path.{_≡_, refl, sym, _∙_}
+use mathlib.Core.Bool.{true, false, false≢true}
+use mathlib.Core.List.{List, []}
+use mathlib.Core.Logic.{_↔_}
+use Prim.Native.Nat.{ℕ}
+use Rattle.model.specs.declared.Mode.{Mode}
+use Rattle.model.specs.declared.Mode.the-variants.{Pin, Msi, Msix}
+use Rattle.model.specs.declared.Shape.{Shape}
+use Rattle.model.specs.Answers.{isAccepted}
+use Rattle.model.specs.Shape.{shapeOf}
+use Rattle.model.specs.World.{World}
+use Rattle.model.specs.Vectors.{waits}
+use Rattle.model.specs.Release.{isPin}
+use Rattle.model.specs.Start.{Given, startRefusal}
+use Rattle.model.specs.Calls.{Call, Outcome, startedWorld, startGiven, startOf, start, operate}
+use Rattle.model.specs.History.{Run, called, run, resets, openBy, heldBy, WaitsBy, isVector}
+use Rattle.model.proofs.Machine.{bit-iff}
+use Rattle.model.proofs.Refusals.{answered-elim}
+use Rattle.model.proofs.StartLaws.{started-sound, started-waits}
+use Rattle.model.proofs.SoundKept.{sound-kept}
+use Rattle.model.proofs.HistoryRegisters.{registers-none}
+use Rattle.model.proofs.HistoryCalls.{Good}
+use Rattle.model.proofs.HistoryReset.{started-registers}
+use Rattle.model.proofs.HistoryLaw.{call-law}
+
+not-pin : (s : Shape) (m : Mode) (v : ℕ) → isVector s m v ≡ true → isPin m ≡ false
+unfolding isVector isPin
+not-pin s Pin v e = absurd (false≢true e)
+not-pin s Msi v e = refl
+not-pin s Msix v e = refl
+
+-- of a card just started
+from-start : (g : Given) → startRefusal g ≡ 0 → (calls : List Call) (m : Mode) (v : ℕ) → isPin m ≡ false
+    → (waits m (run (startedWorld g) calls .world .endpoint) v ≡ true) ↔ WaitsBy g m v (run (startedWorld g) calls .past)
+unfolding run startedWorld
+from-start g ok calls m v p =
+    bit-iff called (λ r. r .past) (λ r. waits m (r .world .endpoint) v) (Good g) (heldBy g m v) resets (λ past. openBy g past m v)
+    (λ r c i. call-law g ok m v r i p c (sound-kept (r .world) c (i .isSound)))
+    (record { world = startedWorld g; past = [] })
+    (record { isSound = started-sound g ok; same = started-registers g ∙ sym (registers-none g) })
+    refl (started-waits g ok m v) calls
+
+-- Take a card just started, not refused, and then every list of calls, refused ones included. After it each vector's waiting bit is one exactly if,
+-- since the start or the last accepted reset, an accepted event for that vector came while its mechanism was in force and the vector was shut,
+-- and no later call left it open. What was in force, granted and open is read off the start's input and the calls with their answers
+pub waiting-history : (w₀ : World) (config sizes : List ℕ) (events requester : ℕ)
+    → isAccepted (operate w₀ (start config sizes events requester) .answer) ≡ true
+    → (calls : List Call) (m : Mode) (v : ℕ) → isVector (shapeOf config) m v ≡ true
+    → let g : Given = startGiven (w₀ .endpoint) config sizes events requester in
+    let r : Run = run (operate w₀ (start config sizes events requester) .world) calls in
+    (waits m (r .world .endpoint) v ≡ true) ↔ WaitsBy g m v (r .past)
+unfolding operate startOf isAccepted
+waiting-history w₀ config sizes events requester a calls m v e =
+    answered-elim
+    (λ (o : Outcome).
+    isAccepted (o .answer) ≡ true → (waits m (run (o .world) calls .world .endpoint) v ≡ true) ↔ WaitsBy g m v (run (o .world) calls .past))
+    (startRefusal g) _ _
+    (λ z _. from-start g z calls m v (not-pin (shapeOf config) m v e))
+    (λ z b. absurd (false≢true b)) a
+  where
+    g : Given
+    g = startGiven (w₀ .endpoint) config sizes events requester

@@ -1,0 +1,68 @@
+-- The packet of either case is copied. Assumes nothing.
+use mathlib.Core.Path.{_≡_, sym, ap, _∙_}
+use native.Mathlib.Omega.{arith}
+use lib.ListN.{length}
+use Rattle.model.specs.Packets.{messageSize}
+use Rattle.model.proofs.PacketLaws.{message-length}
+use borrow.Author.Needs.{needs}
+use Rattle.tlp.proofs.put_message.Statement.{statement}
+use Rattle.tlp.proofs.put_message.Tie as tie
+
+bytes-requires : tie.Need-bytes-requires
+bytes-requires c κs = search needs
+
+slice-aggregate-put-slice : tie.Need-slice-aggregate-put-slice
+slice-aggregate-put-slice c = search needs
+
+put-slice-requires : tie.Need-put-slice-requires
+put-slice-requires c κs =
+    let d = c .before .before in
+    let a = d .before .before .before .args in
+    let n : length (d .bytes .result) ≡ messageSize (a .upper) =
+    ap length (d .bytes .ensures) ∙ message-length (a .requester) 0 (a .address) (a .value) ∙ ap messageSize (sym (d .before .if1 .taken)) in
+    omega (arith, n, d .before .before .before .pre)
+
+same-length : tie.Need-same-length
+same-length c = search needs
+
+returns : tie.Need-returns
+returns c =
+    let d = c .before .before .before .before .before in
+    rw (d .before .if1 .taken) (rw (d .bytes .ensures) at (c .before .before .put-slice .ensures))
+
+bytes-requires-2 : tie.Need-bytes-requires-2
+bytes-requires-2 c κs = search needs
+
+slice-aggregate-put-slice-2 : tie.Need-slice-aggregate-put-slice-2
+slice-aggregate-put-slice-2 c = search needs
+
+put-slice-requires-2 : tie.Need-put-slice-requires-2
+put-slice-requires-2 c κs =
+    let d = c .before .before in
+    let a = d .before .before .before .args in
+    let n : length (d .bytes2 .result) ≡ messageSize (a .upper) =
+    ap length (d .bytes2 .ensures) ∙ message-length (a .requester) (a .upper) (a .address) (a .value) in
+    omega (arith, n, d .before .before .before .pre)
+
+same-length-2 : tie.Need-same-length-2
+same-length-2 c = search needs
+
+returns-2 : tie.Need-returns-2
+returns-2 c =
+    let d = c .before .before .before .before .before in
+    rw (d .bytes2 .ensures) at (c .before .before .put-slice2 .ensures)
+
+pub put-message-spec : {M : Type 1} → statement M
+put-message-spec =
+    tie.close
+    (tie.spec
+    bytes-requires
+    slice-aggregate-put-slice
+    put-slice-requires
+    same-length
+    returns
+    bytes-requires-2
+    slice-aggregate-put-slice-2
+    put-slice-requires-2
+    same-length-2
+    returns-2)

@@ -1,0 +1,217 @@
+//! The capability list and the MSI and MSI-X structures in it.
+
+/// Capability ID of MSI.
+pub const MSI_ID: u8 = 0x05;
+/// Capability ID of MSI-X.
+pub const MSIX_ID: u8 = 0x11;
+// 01: "MSI-X takes 12 bytes."
+pub const MSIX_BYTES: usize = 12;
+// 01: "a 49th capability, is a broken list"
+const MOST: usize = 48;
+
+/// The places of the listed capabilities, in the order of the list.
+pub struct List {
+    at: [u8; MOST],
+    count: usize,
+}
+
+impl List {
+    /// The places of all listed capabilities.
+    pub fn places(&self) -> impl Iterator<Item = usize> + '_ {
+        self.at[..self.count].iter().map(|&at| usize::from(at))
+    }
+
+    /// The places of the capabilities with this ID.
+    pub fn with_id<'a>(
+        &'a self,
+        config: &'a [u8; 256],
+        id: u8,
+    ) -> impl Iterator<Item = usize> + 'a {
+        self.places().filter(move |&at| config[at] == id)
+    }
+}
+
+/// Walks the capability list; `None` is a broken list.
+pub fn walk(config: &[u8; 256]) -> Option<List> {
+    let mut list = List {
+        at: [0; MOST],
+        count: 0,
+    };
+    // 01: "If Status bit 4 (byte 06h) is 0 there is no list."
+    if config[0x06] & 0x10 == 0 {
+        return Some(list);
+    }
+    // 01: "Else walk from byte 34h, ignoring the low two bits of each pointer."
+    let mut pointer = config[0x34] & 0xFC;
+    // 01: "What is left decides: 0 ends; 04h to 3Ch, or a 49th capability, is
+    // a broken list."
+    while pointer != 0 {
+        if pointer <= 0x3C || list.count == MOST {
+            return None;
+        }
+        list.at[list.count] = pointer;
+        list.count += 1;
+        pointer = config[usize::from(pointer) + 1] & 0xFC;
+    }
+    Some(list)
+}
+
+/// Where one form of the MSI capability has its fields, and its length.
+#[derive(Debug)]
+pub struct Form {
+    pub upper: Option<usize>,
+    pub data: usize,
+    /// Offsets of the Mask and the Pending register.
+    pub masks: Option<(usize, usize)>,
+    pub bytes: usize,
+}
+
+// 01: the table below "The four forms of the MSI capability place fields so",
+// and "Address is at 04h, upper address at 08h in the 64-bit forms."
+static FORMS: [Form; 4] = [
+    Form {
+        upper: None,
+        data: 0x08,
+        masks: None,
+        bytes: 10,
+    },
+    Form {
+        upper: Some(0x08),
+        data: 0x0C,
+        masks: None,
+        bytes: 14,
+    },
+    Form {
+        upper: None,
+        data: 0x08,
+        masks: Some((0x0C, 0x10)),
+        bytes: 20,
+    },
+    Form {
+        upper: Some(0x08),
+        data: 0x0C,
+        masks: Some((0x10, 0x14)),
+        bytes: 24,
+    },
+];
+
+/// An MSI capability.
+#[derive(Clone, Copy, Debug)]
+pub struct Msi {
+    pub at: usize,
+    /// Multiple Message Capable, control bits 3:1.
+    pub capable: u32,
+    pub form: &'static Form,
+}
+
+impl Msi {
+    /// Reads the fixed fields of the MSI capability at `at`.
+    pub fn read(config: &[u8; 256], at: usize) -> Msi {
+        let control = u16::from_le_bytes([config[at + 2], config[at + 3]]);
+        // 01: "Control bit 7 says 64-bit, bit 8 says masks."
+        let form = &FORMS[usize::from(control >> 7 & 3)];
+        Msi {
+            at,
+            capable: u32::from(control >> 1 & 7),
+            form,
+        }
+    }
+
+    /// The vectors below 2^Capable, as bits.
+    pub fn capable_bits(&self) -> u32 {
+        bits_below(1 << self.capable)
+    }
+}
+
+/// The low `count` bits of a 32-bit word.
+pub fn bits_below(count: u32) -> u32 {
+    if count >= 32 {
+        u32::MAX
+    } else {
+        (1 << count) - 1
+    }
+}
+
+/// A stretch of bytes in one BAR.
+#[derive(Clone, Copy, Debug)]
+pub struct Region {
+    pub bar: u8,
+    pub offset: u64,
+    pub bytes: u64,
+}
+
+impl Region {
+    /// Reads a word with the BIR in bits 2:0 and the offset in the others.
+    fn read(config: &[u8; 256], at: usize, bytes: usize) -> Region {
+        let word = word_at(config, at);
+        Region {
+            bar: (word & 7) as u8,
+            offset: u64::from(word & !7),
+            bytes: bytes as u64,
+        }
+    }
+
+    /// The first byte behind the region.
+    pub fn end(&self) -> u64 {
+        self.offset + self.bytes
+    }
+
+    /// Whether both regions have a byte in common.
+    pub fn overlaps(&self, other: &Region) -> bool {
+        self.bar == other.bar && self.offset < other.end() && other.offset < self.end()
+    }
+
+    /// How far into the region the access starts, if it lies in the region.
+    pub fn place(&self, bar: u8, offset: u32, width: u8) -> Option<usize> {
+        let start = u64::from(offset);
+        let end = start + u64::from(width);
+        if bar == self.bar && self.offset <= start && end <= self.end() {
+            Some((start - self.offset) as usize)
+        } else {
+            None
+        }
+    }
+}
+
+/// An MSI-X capability.
+#[derive(Clone, Copy, Debug)]
+pub struct MsiX {
+    pub at: usize,
+    /// N, the number of vectors.
+    pub vectors: usize,
+    pub table: Region,
+    pub pending: Region,
+}
+
+impl MsiX {
+    /// Reads the fixed fields of the MSI-X capability at `at`, which must not
+    /// run past byte FFh.
+    pub fn read(config: &[u8; 256], at: usize) -> MsiX {
+        let control = u16::from_le_bytes([config[at + 2], config[at + 3]]);
+        // 01: "N is MSI-X Table Size + 1, or 0 with no MSI-X."
+        let vectors = usize::from(control & 0x7FF) + 1;
+        MsiX {
+            at,
+            vectors,
+            table: Region::read(config, at + 4, table_bytes(vectors)),
+            pending: Region::read(config, at + 8, pending_bytes(vectors)),
+        }
+    }
+}
+
+// 01: "table (16N bytes)"
+/// The length of a table of `vectors` entries.
+pub fn table_bytes(vectors: usize) -> usize {
+    16 * vectors
+}
+
+// 01: "8 x (N/64 rounded up) bytes"
+/// The length of a pending array of `vectors` bits.
+pub fn pending_bytes(vectors: usize) -> usize {
+    8 * vectors.div_ceil(64)
+}
+
+/// The little-endian word at `at`.
+pub fn word_at(bytes: &[u8], at: usize) -> u32 {
+    u32::from_le_bytes([bytes[at], bytes[at + 1], bytes[at + 2], bytes[at + 3]])
+}
