@@ -120,9 +120,9 @@ fn bad_buffers(s: Shape, table: usize, pending: usize) -> bool
 }
 
 // Rows 10 to 17, from what the walk found and the shape.
-fn refusal(
-    config: &[u8; 256],
-    sizes: &[u32; 6],
+fn refusal<'a>(
+    config: &'a [u8; 256],
+    sizes: &'a [u32; 6],
     events: u16,
     requester: u16,
     table: usize,
@@ -161,15 +161,16 @@ fn refusal(
 }
 
 // What a start is given: the configuration, the BAR sizes, E, the requester ID, and the lengths of the lent buffers.
-pub fn check_start(
-    config: &[u8; 256],
-    sizes: &[u32; 6],
+pub fn check_start<'a>(
+    config: &'a [u8; 256],
+    sizes: &'a [u32; 6],
     events: u16,
     requester: u16,
     table: usize,
     pending: usize,
 ) -> Checked
-    ensures { λ r. ⌜ (r .refusal ≡ startRefusal (given (now (config .entry)) (now (sizes .entry)) events requester table pending)) × (r .shape ≡ shapeOf (now (config .entry))) × Bounded (r .shape) ⌝ }
+    ensures { λ r. ⌜ (r .refusal ≡ startRefusal (given (now (config .entry)) (now (sizes .entry)) events requester table pending))
+        × (r .shape ≡ shapeOf (now (config .entry))) × Bounded (r .shape) ⌝ }
 {
     let l = read_list(config);
     let s = shape(config, l);

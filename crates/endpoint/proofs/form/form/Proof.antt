@@ -49,16 +49,16 @@ cast-row-2 : tie.Need-cast-row-2
 cast-row-2 c = search needs
 
 mul-row : tie.Need-mul-row
-mul-row c = omega (arith, below (c .before .before .args .s .msi .wide) (c .before .before .args .s .msi .masks))
+mul-row c = omega (arith, small (c .before .before .args .s .msi .wide), small (c .before .before .args .s .msi .masks))
 
 add-row : tie.Need-add-row
-add-row c = omega (arith, below (c .before .before .args .s .msi .wide) (c .before .before .args .s .msi .masks))
+add-row c = omega (arith, small (c .before .before .args .s .msi .wide), small (c .before .before .args .s .msi .masks))
 
 mul-result : tie.Need-mul-result
-mul-result c = omega (arith, below (c .before .before .args .s .msi .wide) (c .before .before .args .s .msi .masks))
+mul-result c = omega (arith, small (c .before .before .args .s .msi .wide), small (c .before .before .args .s .msi .masks))
 
 array-copy-out-result : tie.Need-array-copy-out-result
-array-copy-out-result c = below (c .before .before .args .s .msi .wide) (c .before .before .args .s .msi .masks)
+array-copy-out-result c = omega (arith, small (c .before .before .args .s .msi .wide), small (c .before .before .args .s .msi .masks))
 
 returns : tie.Need-returns
 unfolding formOf table

@@ -19,7 +19,9 @@ returns-3 c = rw (ne-eqb _ _ (c .before .before .before .if1 .left), le-ltb _ _ 
 
 returns-4 : tie.Need-returns-4
 unfolding badEvents
-returns-4 c = rw (ne-eqb _ _ (c .before .before .before .before .if1 .left), le-ltb _ _ (c .before .before .before .if2 .left), msix-there (c .before .before .before .before .before .args .s) (c .before .if3 .left))
+returns-4 c =
+    let s = c .before .before .before .before .before .args .s in
+    rw (ne-eqb _ _ (c .before .before .before .before .if1 .left), le-ltb _ _ (c .before .before .before .if2 .left), msix-there s (c .before .if3 .left))
 
 pub bad-events-spec : {M : Type 1} → statement M
 bad-events-spec = tie.close (tie.spec returns returns-2 returns-3 returns-4)

@@ -22,8 +22,10 @@ outside-requires c κs = search needs
 
 returns-2 : tie.Need-returns-2
 returns-2 c =
-    let a = c .before .before .before .before .before .before .before .before .args in
-    region-1 (now (a .sizes)) (a .s) (c .before .before .before .table-bytes .result) (c .before .before .pending-bytes .result) (c .before .before .before .table-bytes .ensures .0) (c .before .before .pending-bytes .ensures .0) (c .before .before .before .before .before .before .if1 .left)
+    let p = c .before .before in
+    let a = p .before .before .before .before .before .before .args in
+    region-1 (now (a .sizes)) (a .s) (p .before .table-bytes .result) (p .pending-bytes .result)
+    (p .before .table-bytes .ensures .0) (p .pending-bytes .ensures .0) (p .before .before .before .before .if1 .left)
     (sym (c .before .outside .ensures) ∙ c .if2 .taken)
 
 outside-requires-2 : tie.Need-outside-requires-2
@@ -31,24 +33,35 @@ outside-requires-2 c κs = search needs
 
 returns-3 : tie.Need-returns-3
 returns-3 c =
-    let a = c .before .before .before .before .before .before .before .before .before .before .args in
-    region-2 (now (a .sizes)) (a .s) (c .before .before .before .before .before .table-bytes .result) (c .before .before .before .before .pending-bytes .result) (c .before .before .before .before .before .table-bytes .ensures .0) (c .before .before .before .before .pending-bytes .ensures .0) (c .before .before .before .before .before .before .before .before .if1 .left)
-    (sym (c .before .before .before .outside .ensures) ∙ c .before .before .if2 .left) (sym (c .before .outside2 .ensures) ∙ c .if3 .taken)
+    let p = c .before .before .before .before in
+    let a = p .before .before .before .before .before .before .args in
+    region-2 (now (a .sizes)) (a .s) (p .before .table-bytes .result) (p .pending-bytes .result)
+    (p .before .table-bytes .ensures .0) (p .pending-bytes .ensures .0) (p .before .before .before .before .if1 .left)
+    (sym (c .before .before .before .outside .ensures) ∙ c .before .before .if2 .left)
+    (sym (c .before .outside2 .ensures) ∙ c .if3 .taken)
 
 returns-4 : tie.Need-returns-4
 returns-4 c =
-    let a = c .before .before .before .before .before .before .before .before .before .before .before .before .before .args in
-    region-3 (now (a .sizes)) (a .s) (c .before .before .before .before .before .before .before .before .table-bytes .result) (c .before .before .before .before .before .before .before .pending-bytes .result) (c .before .before .before .before .before .before .before .before .table-bytes .ensures .0) (c .before .before .before .before .before .before .before .pending-bytes .ensures .0) (c .before .before .before .before .before .before .before .before .before .before .before .if1 .left)
-    (sym (c .before .before .before .before .before .before .outside .ensures) ∙ c .before .before .before .before .before .if2 .left) (sym (c .before .before .before .before .outside2 .ensures) ∙ c .before .before .before .if3 .left) (c .if4 .taken)
+    let p = c .before .before .before .before .before .before .before in
+    let a = p .before .before .before .before .before .before .args in
+    region-3 (now (a .sizes)) (a .s) (p .before .table-bytes .result) (p .pending-bytes .result)
+    (p .before .table-bytes .ensures .0) (p .pending-bytes .ensures .0) (p .before .before .before .before .if1 .left)
+    (sym (c .before .before .before .before .before .before .outside .ensures) ∙ c .before .before .before .before .before .if2 .left)
+    (sym (c .before .before .before .before .outside2 .ensures) ∙ c .before .before .before .if3 .left)
+    (c .if4 .taken)
 
 overlap-requires : tie.Need-overlap-requires
 overlap-requires c κs = search needs
 
 returns-5 : tie.Need-returns-5
 returns-5 c = c .overlap .ensures ∙
-    let a = c .before .before .before .before .before .before .before .before .before .before .before .before .before .before .args in
-    region-4 (now (a .sizes)) (a .s) (c .before .before .before .before .before .before .before .before .before .table-bytes .result) (c .before .before .before .before .before .before .before .before .pending-bytes .result) (c .before .before .before .before .before .before .before .before .before .table-bytes .ensures .0) (c .before .before .before .before .before .before .before .before .pending-bytes .ensures .0) (c .before .before .before .before .before .before .before .before .before .before .before .before .if1 .left)
-    (sym (c .before .before .before .before .before .before .before .outside .ensures) ∙ c .before .before .before .before .before .before .if2 .left) (sym (c .before .before .before .before .before .outside2 .ensures) ∙ c .before .before .before .before .if3 .left) (c .before .if4 .left)
+    let p = c .before .before .before .before .before .before .before .before in
+    let a = p .before .before .before .before .before .before .args in
+    region-4 (now (a .sizes)) (a .s) (p .before .table-bytes .result) (p .pending-bytes .result)
+    (p .before .table-bytes .ensures .0) (p .pending-bytes .ensures .0) (p .before .before .before .before .if1 .left)
+    (sym (c .before .before .before .before .before .before .before .outside .ensures) ∙ c .before .before .before .before .before .before .if2 .left)
+    (sym (c .before .before .before .before .before .outside2 .ensures) ∙ c .before .before .before .before .if3 .left)
+    (c .before .if4 .left)
 
 pub bad-regions-spec : {M : Type 1} → statement M
 bad-regions-spec =

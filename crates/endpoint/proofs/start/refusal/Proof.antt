@@ -23,39 +23,42 @@ asked c =
 abbrev rows : tie.Start → List (ℕ × Bool)
 rows c = rowsOf (asked c) (c .args .l) (c .args .s)
 
-at-first : (c : tie.Start) → startRefusal (asked c) ≡ firstOf (rows c)
-at-first c = rows-are (asked c) (c .args .l) (c .args .s) (c .pre .0) (c .pre .1)
+-- the first k rows do not apply
+abbrev Left : tie.Start → ℕ → Type 0
+Left c k = startRefusal (asked c) ≡ firstOf (drop k (rows c))
 
--- after each test that failed: the rows that are left
-past-1 : (c : tie.Else1) → startRefusal (asked (c .before .before)) ≡ firstOf (drop 1 (rows (c .before .before)))
-past-1 c = at-first (c .before .before) ∙ row-passes 10 _ (sym (c .before .bad-header .ensures) ∙ c .if1 .left)
+past-0 : (c : tie.Start) → Left c 0
+past-0 c = rows-are (asked c) (c .args .l) (c .args .s) (c .pre .0) (c .pre .1)
 
-past-2 : (c : tie.Else2) → startRefusal (asked (c .before .before .before)) ≡ firstOf (drop 2 (rows (c .before .before .before)))
+past-1 : (c : tie.Else1) → Left (c .before .before) 1
+past-1 c = past-0 (c .before .before) ∙ row-passes 10 _ (sym (c .before .bad-header .ensures) ∙ c .if1 .left)
+
+past-2 : (c : tie.Else2) → Left (c .before .before .before) 2
 past-2 c = past-1 (c .before) ∙ row-passes 11 _ (c .if2 .left)
 
-past-3 : (c : tie.Else3) → startRefusal (asked (c .before .before .before .before .before)) ≡ firstOf (drop 3 (rows (c .before .before .before .before .before)))
+past-3 : (c : tie.Else3) → Left (c .before .before .before .before .before) 3
 past-3 c = past-2 (c .before .before) ∙ row-passes 12 _ (sym (c .before .listed-twice .ensures) ∙ c .if3 .left)
 
-past-4 : (c : tie.Else4) → startRefusal (asked (c .before .before .before .before .before .before .before)) ≡ firstOf (drop 4 (rows (c .before .before .before .before .before .before .before)))
+past-4 : (c : tie.Else4) → Left (c .before .before .before .before .before .before .before) 4
 past-4 c = past-3 (c .before .before) ∙ row-passes 13 _ (sym (c .before .bad-structures .ensures) ∙ c .if4 .left)
 
-past-5 : (c : tie.Else5) → startRefusal (asked (c .before .before .before .before .before .before .before .before .before)) ≡ firstOf (drop 5 (rows (c .before .before .before .before .before .before .before .before .before)))
+past-5 : (c : tie.Else5) → Left (c .before .before .before .before .before .before .before .before .before) 5
 past-5 c = past-4 (c .before .before) ∙ row-passes 14 _ (sym (c .before .bad-regions .ensures) ∙ c .if5 .left)
 
-past-6 : (c : tie.Else6) → startRefusal (asked (c .before .before .before .before .before .before .before .before .before .before .before)) ≡ firstOf (drop 6 (rows (c .before .before .before .before .before .before .before .before .before .before .before)))
+past-6 : (c : tie.Else6) → Left (c .before .before .before .before .before .before .before .before .before .before .before) 6
 past-6 c = past-5 (c .before .before) ∙ row-passes 15 _ (sym (c .before .bad-events .ensures) ∙ c .if6 .left)
 
-past-7 : (c : tie.Else7) → startRefusal (asked (c .before .before .before .before .before .before .before .before .before .before .before .before)) ≡ firstOf (drop 7 (rows (c .before .before .before .before .before .before .before .before .before .before .before .before)))
+past-7 : (c : tie.Else7) → Left (c .before .before .before .before .before .before .before .before .before .before .before .before) 7
 past-7 c = past-6 (c .before) ∙ row-passes 16 _ (ap not (eq-eqb _ _ (c .if7 .left)))
 
-past-8 : (c : tie.Else8) → startRefusal (asked (c .before .before .before .before .before .before .before .before .before .before .before .before .before .before)) ≡ firstOf (drop 8 (rows (c .before .before .before .before .before .before .before .before .before .before .before .before .before .before)))
+past-8 : (c : tie.Else8) → Left (c .before .before .before .before .before .before .before .before .before .before .before .before .before .before) 8
 past-8 c = past-7 (c .before .before) ∙ row-passes 17 _ (sym (c .before .bad-buffers .ensures) ∙ c .if8 .left)
 
 bad-header-requires : tie.Need-bad-header-requires
 bad-header-requires c κs = search needs
 
 returns : tie.Need-returns
-returns c = sym (at-first (c .before .before) ∙ row-refuses 10 _ (sym (c .before .bad-header .ensures) ∙ c .if1 .taken))
+returns c = sym (past-0 (c .before .before) ∙ row-refuses 10 _ (sym (c .before .bad-header .ensures) ∙ c .if1 .taken))
 
 returns-2 : tie.Need-returns-2
 returns-2 c = sym (past-1 (c .before) ∙ row-refuses 11 _ (c .if2 .taken))
@@ -67,7 +70,9 @@ returns-3 : tie.Need-returns-3
 returns-3 c = sym (past-2 (c .before .before) ∙ row-refuses 12 _ (sym (c .before .listed-twice .ensures) ∙ c .if3 .taken))
 
 bad-structures-requires : tie.Need-bad-structures-requires
-bad-structures-requires c κs = (sym (broken-listed (now (c .before .before .before .before .before .args .config)) (c .before .before .before .before .before .args .l) (c .before .before .before .before .before .pre .0)) ∙ c .before .before .if2 .left, c .before .before .before .before .before .pre .2)
+bad-structures-requires c κs =
+    let s = c .before .before .before .before .before in
+    (sym (broken-listed (now (s .args .config)) (s .args .l) (s .pre .0)) ∙ c .before .before .if2 .left, s .pre .2)
 
 returns-4 : tie.Need-returns-4
 returns-4 c = sym (past-3 (c .before .before) ∙ row-refuses 13 _ (sym (c .before .bad-structures .ensures) ∙ c .if4 .taken))

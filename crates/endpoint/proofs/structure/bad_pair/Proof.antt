@@ -19,7 +19,9 @@ overlap-requires c κs = search needs
 
 returns-3 : tie.Need-returns-3
 unfolding badPair
-returns-3 c = c .overlap .ensures ∙ rw (msi-there (c .before .before .before .before .before .args .s) (c .before .before .before .if1 .left), msix-there (c .before .before .before .before .before .args .s) (c .before .if2 .left))
+returns-3 c =
+    let s = c .before .before .before .before .before .args .s in
+    c .overlap .ensures ∙ rw (msi-there s (c .before .before .before .if1 .left), msix-there s (c .before .if2 .left))
 
 pub bad-pair-spec : {M : Type 1} → statement M
 bad-pair-spec = tie.close (tie.spec returns returns-2 overlap-requires returns-3)

@@ -17,8 +17,9 @@ bad-msi-requires c κs = (c .before .pre .0, c .before .pre .1, omega (arith, ap
 
 returns : tie.Need-returns
 returns c =
+    let f = c .before .before .form in
     let s = c .before .before .before .args in
-    part-1 (listed (capabilities (now (s .c)))) (s .s) (c .before .before .form .result .size) (ap (λ (f : Form). f .size) (c .before .before .form .ensures))
+    part-1 (listed (capabilities (now (s .c)))) (s .s) (f .result .size) (ap (λ (f : Form). f .size) (f .ensures))
     (sym (c .before .bad-msi .ensures) ∙ c .if1 .taken)
 
 bad-msix-requires : tie.Need-bad-msix-requires
@@ -26,8 +27,9 @@ bad-msix-requires c κs = search needs
 
 returns-2 : tie.Need-returns-2
 returns-2 c =
+    let f = c .before .before .before .before .form in
     let s = c .before .before .before .before .before .args in
-    part-2 (listed (capabilities (now (s .c)))) (s .s) (c .before .before .before .before .form .result .size) (ap (λ (f : Form). f .size) (c .before .before .before .before .form .ensures))
+    part-2 (listed (capabilities (now (s .c)))) (s .s) (f .result .size) (ap (λ (f : Form). f .size) (f .ensures))
     (sym (c .before .before .before .bad-msi .ensures) ∙ c .before .before .if1 .left) (sym (c .before .bad-msix .ensures) ∙ c .if2 .taken)
 
 bad-pair-requires : tie.Need-bad-pair-requires
@@ -35,8 +37,9 @@ bad-pair-requires c κs = (c .before .before .before .before .before .pre .1, om
 
 returns-3 : tie.Need-returns-3
 returns-3 c = c .bad-pair .ensures ∙
+    let f = c .before .before .before .before .before .form in
     let s = c .before .before .before .before .before .before .args in
-    part-3 (listed (capabilities (now (s .c)))) (s .s) (c .before .before .before .before .before .form .result .size) (ap (λ (f : Form). f .size) (c .before .before .before .before .before .form .ensures))
+    part-3 (listed (capabilities (now (s .c)))) (s .s) (f .result .size) (ap (λ (f : Form). f .size) (f .ensures))
     (sym (c .before .before .before .before .bad-msi .ensures) ∙ c .before .before .before .if1 .left) (sym (c .before .before .bad-msix .ensures) ∙ c .before .if2 .left)
 
 pub bad-structures-spec : {M : Type 1} → statement M

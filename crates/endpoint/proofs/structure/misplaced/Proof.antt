@@ -28,35 +28,42 @@ add-if1 : tie.Need-add-if1 Inv-loop μ-loop
 add-if1 c = search needs
 
 returns : tie.Need-returns Inv-loop μ-loop
-returns c = runs-past (listed (capabilities (now (c .before .args .c)))) (c .before .args .a) (c .before .args .n) (c .if1 .taken)
+returns c =
+    let s = c .before .args in
+    runs-past (listed (capabilities (now (s .c)))) (s .a) (s .n) (c .if1 .taken)
 
 first-pointer-requires : tie.Need-first-pointer-requires Inv-loop μ-loop
 first-pointer-requires c κs = search needs
 
 loop-holds : tie.Need-loop-holds Inv-loop μ-loop
 loop-holds c =
-    let f = now (c .before .before .args .c) in
-    let e : walk f 48 (c .first-pointer .result) ≡ capabilities f = ap (walk f 48) (c .first-pointer .ensures) ∙ from-first f in (
-      omega arith,
-      ap broken e ∙ c .before .before .pre .0,
-      ap (λ (w : Option (List ℕ)). all (apart (c .before .before .args .a) (c .before .before .args .n)) (listed w)) e,
-    )
+    let s = c .before .before .args in
+    let f = now (s .c) in
+    let e : walk f 48 (c .first-pointer .result) ≡ capabilities f = ap (walk f 48) (c .first-pointer .ensures) ∙ from-first f in
+    (omega arith, ap broken e ∙ c .before .before .pre .0, ap (λ (w : Option (List ℕ)). all (apart (s .a) (s .n)) (listed w)) e)
 
 place-requires : tie.Need-place-requires Inv-loop μ-loop
 place-requires c κs = search needs
 
 returns-2 : tie.Need-returns-2 Inv-loop μ-loop
 returns-2 c =
-    by-headers (listed (capabilities (now (c .before .before .before .before .before .before .args .c)))) (c .before .before .before .before .before .before .args .a) (c .before .before .before .before .before .before .args .n) true (c .before .before .before .before .before .if1 .left)
-    (test-ends (now (c .before .before .before .before .before .before .args .c)) (apart (c .before .before .before .before .before .before .args .a) (c .before .before .before .before .before .before .args .n)) (c .before .before .before .loop .k) (c .before .before .before .loop .p) (c .before .place .result) _ (c .before .place .ensures .0) (c .before .before .before .loop .inv .1) (c .before .before .before .loop .inv .2) (c .if2 .taken))
+    let s = c .before .before .before .before .before .before .args in
+    let v = c .before .before .before .loop in
+    by-headers (listed (capabilities (now (s .c)))) (s .a) (s .n) true (c .before .before .before .before .before .if1 .left)
+    (test-ends (now (s .c)) (apart (s .a) (s .n)) (v .k) (v .p) (c .before .place .result) _ (c .before .place .ensures .0) (v .inv .1) (v .inv .2)
+    (c .if2 .taken))
 
 apart-requires : tie.Need-apart-requires Inv-loop μ-loop
 apart-requires c κs = search needs
 
 returns-3 : tie.Need-returns-3 Inv-loop μ-loop
 returns-3 c =
-    by-headers (listed (capabilities (now (c .before .before .before .before .before .before .before .before .args .c)))) (c .before .before .before .before .before .before .before .before .args .a) (c .before .before .before .before .before .before .before .before .args .n) false (c .before .before .before .before .before .before .before .if1 .left)
-    (test-fails (now (c .before .before .before .before .before .before .before .before .args .c)) (apart (c .before .before .before .before .before .before .before .before .args .a) (c .before .before .before .before .before .before .before .before .args .n)) (c .before .before .before .before .before .loop .k) (c .before .before .before .before .before .loop .p) (c .before .before .before .place .result) _ (c .before .before .before .place .ensures .0) (c .before .before .before .before .before .loop .inv .1) (c .before .before .before .before .before .loop .inv .2) (c .before .before .before .before .loop-test .taken) (c .before .before .if2 .left) (sym (c .before .apart .ensures) ∙ not-true _ (c .if3 .taken)))
+    let s = c .before .before .before .before .before .before .before .before .args in
+    let v = c .before .before .before .before .before .loop in
+    by-headers (listed (capabilities (now (s .c)))) (s .a) (s .n) false (c .before .before .before .before .before .before .before .if1 .left)
+    (test-fails (now (s .c)) (apart (s .a) (s .n)) (v .k) (v .p) (c .before .before .before .place .result) _ (c .before .before .before .place .ensures .0) (v .inv .1) (v .inv .2)
+    (c .before .before .before .before .loop-test .taken) (c .before .before .if2 .left)
+    (sym (c .before .apart .ensures) ∙ not-true _ (c .if3 .taken)))
 
 add-p : tie.Need-add-p Inv-loop μ-loop
 add-p c = search needs
@@ -72,13 +79,20 @@ loop-less c = search needs
 
 loop-again : tie.Need-loop-again Inv-loop μ-loop
 loop-again c =
-    let q = test-more (now (c .before .before .before .before .before .before .before .before .before .args .c)) (apart (c .before .before .before .before .before .before .before .before .before .args .a) (c .before .before .before .before .before .before .before .before .before .args .n)) (c .before .before .before .before .before .before .loop .k) (c .before .before .before .before .before .before .loop .p) (c .before .before .before .before .place .result) _ (c .before .before .before .before .place .ensures .0) (c .before .before .before .before .before .before .loop .inv .1) (c .before .before .before .before .before .before .loop .inv .2) (c .before .before .before .before .before .loop-test .taken) (c .before .before .before .if2 .left) (sym (c .before .before .apart .ensures) ∙ not-false _ (c .before .if3 .left)) in
+    let s = c .before .before .before .before .before .before .before .before .before .args in
+    let v = c .before .before .before .before .before .before .loop in
+    let q =
+    test-more (now (s .c)) (apart (s .a) (s .n)) (v .k) (v .p) (c .before .before .before .before .place .result) _ (c .before .before .before .before .place .ensures .0) (v .inv .1) (v .inv .2)
+    (c .before .before .before .before .before .loop-test .taken) (c .before .before .before .if2 .left)
+    (sym (c .before .before .apart .ensures) ∙ not-false _ (c .before .if3 .left)) in
     (omega arith, q .0, q .1)
 
 returns-4 : tie.Need-returns-4 Inv-loop μ-loop
 returns-4 c =
-    by-headers (listed (capabilities (now (c .before .before .before .before .args .c)))) (c .before .before .before .before .args .a) (c .before .before .before .before .args .n) true (c .before .before .before .if1 .left)
-    (test-full (now (c .before .before .before .before .args .c)) (apart (c .before .before .before .before .args .a) (c .before .before .before .before .args .n)) (c .before .loop .k) (c .before .loop .p) (pointer (c .before .loop .p)) _ refl (c .before .loop .inv .1) (c .before .loop .inv .2) (omega arith))
+    let s = c .before .before .before .before .args in
+    let v = c .before .loop in
+    by-headers (listed (capabilities (now (s .c)))) (s .a) (s .n) true (c .before .before .before .if1 .left)
+    (test-full (now (s .c)) (apart (s .a) (s .n)) (v .k) (v .p) (pointer (v .p)) _ refl (v .inv .1) (v .inv .2) (omega arith))
 
 pub misplaced-spec : {M : Type 1} → statement M
 misplaced-spec =
