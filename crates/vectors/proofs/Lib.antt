@@ -1,0 +1,2 @@
+pub mod GrantedLaws
+pub mod FitShapeLaws
