@@ -1,2 +1,6 @@
 pub mod GrantedLaws
 pub mod FitShapeLaws
+pub mod FormLaws
+pub mod MsiLaws
+pub mod MsixLaws
+pub mod OpenLaws

@@ -11,6 +11,14 @@ pub fn bit(x: u8, k: usize) -> bool
     (x >> k) % 2 == 1
 }
 
+// Bit k of a word.
+pub fn word_bit(x: u32, k: usize) -> bool
+    requires { ⌜ k < 32 ⌝ }
+    ensures { λ r. ⌜ r ≡ bit x k ⌝ }
+{
+    (x >> k) % 2 == 1
+}
+
 // Bit k of the register at configuration byte `at`.
 pub fn config_bit(c: &[u8; 256], at: usize, k: usize) -> bool
     requires { ⌜ (at + k / 8 < 256) × (k < 32) ⌝ }
