@@ -4,3 +4,4 @@ pub mod FormLaws
 pub mod MsiLaws
 pub mod MsixLaws
 pub mod OpenLaws
+pub mod MessageLaws

@@ -7,3 +7,5 @@ pub mod wire; // the wire as it should be
 pub mod msi; // the open vectors of MSI
 pub mod msix; // the open vectors of MSI-X
 pub mod open; // a vector of any mechanism
+pub mod waiting; // waiting bits
+pub mod message; // the message of a vector
