@@ -13,12 +13,14 @@ use Rattle.words.proofs.BoolLaws.{by-test}
 use Rattle.words.proofs.BitLaws.{bit-and}
 use Rattle.words.proofs.ListLaws.{keep-same, keep-none, keep-append, count-append, member-count}
 use Rattle.model.specs.declared.Mode.{Mode}
-use Rattle.model.specs.declared.Mode.the-variants.{Pin, Msi}
+use Rattle.model.specs.declared.Mode.the-variants.{Pin, Msi, Msix}
 use Rattle.model.specs.declared.Shape.{Shape}
 use Rattle.model.specs.Shape.{msiPresent, msiVectors}
 use Rattle.model.specs.World.{Endpoint, Registers, registers}
 use Rattle.model.specs.Vectors.{enabled, isOpen, waits, owed, vectorCount}
 use Rattle.model.proofs.SweepLaws.{open-counted}
+use Rattle.vectors.specs.Enabled.{msixEnabled}
+use Rattle.vectors.proofs.MsixLaws.{open-msix}
 
 -- the pin has no vectors
 pub pin-shut : (s : Shape) (r : Registers) (v : ℕ) → isOpen Pin s r v ≡ false
@@ -58,3 +60,10 @@ owed-msi s u w h e =
     owed-among Msi s u 32 (msi-count s h)
     ∙ keep-same (λ v. isOpen Msi s (registers u) v && waits Msi u v) (bit (bitAnd w (u .function .waiting))) (count 0 32)
     (λ v m. ap (λ (b : Bool). b && bit (u .function .waiting) v) (sym (e v)) ∙ sym (bit-and w (u .function .waiting) v))
+
+-- MSI-X sends nothing while it is not enabled
+pub owed-shut : (s : Shape) (u : Endpoint) → msixEnabled s (registers u) ≡ false → owed Msix s u ≡ []
+unfolding owed
+owed-shut s u e =
+    keep-none (λ v. isOpen Msix s (registers u) v && waits Msix u v) (count 0 (vectorCount Msix s))
+    (λ v m. let o : isOpen Msix s (registers u) v ≡ false = open-msix s (registers u) v ∙ rw e in rw o)

@@ -12,11 +12,11 @@ pub fn bit(x: u8, k: usize) -> bool
 }
 
 // Bit k of a word.
-pub fn word_bit(x: u32, k: usize) -> bool
+pub fn word_bit(w: u32, k: usize) -> bool
     requires { ⌜ k < 32 ⌝ }
-    ensures { λ r. ⌜ r ≡ bit x k ⌝ }
+    ensures { λ r. ⌜ r ≡ bit w k ⌝ }
 {
-    (x >> k) % 2 == 1
+    (w >> k) % 2 == 1
 }
 
 // Bit k of the register at configuration byte `at`.
