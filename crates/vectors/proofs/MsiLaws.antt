@@ -1,0 +1,68 @@
+-- The open vectors of MSI as the bits of a word. Assumes nothing.
+use mathlib.Core.Path.{_≡_, sym, ap, _∙_}
+use mathlib.Core.Bool.{Bool, true, false, not, _&&_, and-false, and-true}
+use Prim.Native.Nat.{ℕ, zero, _+_, _-_, _^_, _≤_, _<_}
+use native.Mathlib.Nat.{sub-zero}
+use native.Mathlib.Omega.{arith}
+use lib.Bits.{bitAnd}
+use lib.Dec.{ltb}
+use lib.Pow.{pow-pos}
+use borrow.Author.Tests.{le-ltb, ltb-true, ltb-false}
+use Rattle.words.specs.Bits.{bit}
+use Rattle.words.specs.Bytes.{byte, bitAt, word32, Bytes}
+use Rattle.words.proofs.BoolLaws.{by-test}
+use Rattle.words.proofs.BitLaws.{bit-of-zero, bit-and, bit-not, bit-above}
+use Rattle.words.proofs.NumberBits.{bit-number}
+use Rattle.model.specs.declared.Mode.the-variants.{Msi}
+use Rattle.model.specs.declared.Shape.{Shape}
+use Rattle.model.specs.Shape.{formOf}
+use Rattle.model.specs.World.{Registers}
+use Rattle.model.specs.Vectors.{granted, masked, enabled, modeOf, sameMode, inForce, commandBit, isOpen}
+use Rattle.vectors.proofs.GrantedLaws.{granted-small}
+
+-- the n lowest bits
+pub bit-ones : (n k : ℕ) → bit (2 ^ n - 1) k ≡ ltb k n
+bit-ones n k =
+    by-test (ltb k n)
+    (λ t. ap (λ (x : ℕ). bit x k) (sym (sub-zero (2 ^ n - 1))) ∙ bit-not n 0 k (pow-pos n) (ltb-true k n t) ∙ ap not (bit-of-zero k) ∙ sym t)
+    (λ t. bit-above n (2 ^ n - 1) k (let p : zero < 2 ^ n = pow-pos n in omega arith) (ltb-false k n t) ∙ sym t)
+
+-- MSI is not in force, or bus mastering is off
+module _ (s : Shape) (r : Registers) where
+  pub other-mode : sameMode Msi (modeOf s r) ≡ false → (v : ℕ) → bit 0 v ≡ isOpen Msi s r v
+  unfolding isOpen inForce
+  other-mode e v = rw e (bit-of-zero v)
+
+  pub no-master : commandBit r 2 ≡ false → (v : ℕ) → bit 0 v ≡ isOpen Msi s r v
+  unfolding isOpen
+  no-master e v = rw (e, and-false) (bit-of-zero v)
+
+  -- n are granted, and m is the mask register
+  pub by-word : (n m : ℕ) → n ≤ 32 → m < 2 ^ 32 → n ≡ granted s r → ((v : ℕ) → v < 32 → bit m v ≡ masked Msi s r v)
+      → sameMode Msi (modeOf s r) ≡ true → commandBit r 2 ≡ true → (v : ℕ) → bit (bitAnd (2 ^ n - 1) ((2 ^ 32 - 1) - m)) v ≡ isOpen Msi s r v
+  unfolding isOpen inForce enabled
+  by-word n m h j g k e c v =
+      bit-and (2 ^ n - 1) ((2 ^ 32 - 1) - m) v ∙ ap (λ (b : Bool). b && bit ((2 ^ 32 - 1) - m) v) (bit-ones n v)
+      ∙ by-test (ltb v n)
+      (λ t.
+      let l : v < 32 = let a : v < n = ltb-true v n t in omega arith in
+      rw (e, c, ← g, t) (bit-not 32 m v j l ∙ ap not (k v l) ∙ sym (and-true (not (masked Msi s r v)))))
+      (λ t. rw (e, c, ← g, t))
+
+-- ---- the mask register
+
+pub no-masks : (s : Shape) (r : Registers) → s .msi .masks ≡ false → (v : ℕ) → bit 0 v ≡ masked Msi s r v
+unfolding masked
+no-masks s r e v = rw e (bit-of-zero v)
+
+pub mask-register : (s : Shape) (r : Registers) → Bytes (r .config) → s .msi .masks ≡ true
+    → (v : ℕ) → v < 32 → bit (word32 (r .config) (s .msi .at + formOf s .mask)) v ≡ masked Msi s r v
+unfolding masked bitAt word32
+mask-register s r b e v h =
+    bit-number (byte (r .config)) b (s .msi .at + formOf s .mask) 4 v h
+    ∙ sym (ap (λ (m : Bool). m && bitAt (r .config) (s .msi .at + formOf s .mask) v) e)
+
+-- none is open at 32 or above
+pub open-below : (s : Shape) (r : Registers) (v : ℕ) → s .msi .capable ≤ 5 → 32 ≤ v → isOpen Msi s r v ≡ false
+unfolding isOpen enabled
+open-below s r v h l = rw (le-ltb v (granted s r) (omega (arith, granted-small s r h)), and-false)

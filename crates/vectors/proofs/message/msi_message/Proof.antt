@@ -1,0 +1,31 @@
+-- The base and the vector. Assumes nothing.
+use mathlib.Core.Path.{ap, _∙_}
+use Prim.Native.Nat.{_+_}
+use denote.Ref.{now}
+use borrow.Author.Needs.{needs}
+use Rattle.model.specs.Packets.{message}
+use Rattle.vectors.specs.Given.{regs}
+use Rattle.vectors.specs.declared.message.Message.{Message}
+use Rattle.vectors.proofs.MessageLaws.{base-message}
+use Rattle.vectors.proofs.message.msi_message.Statement.{statement}
+use Rattle.vectors.proofs.message.msi_message.Tie as tie
+
+msi-base-requires : tie.Need-msi-base-requires
+msi-base-requires c κs = search needs
+
+cast-t5 : tie.Need-cast-t5
+cast-t5 c = search needs
+
+add-t6 : tie.Need-add-t6
+add-t6 c = search needs
+
+returns : tie.Need-returns
+returns c =
+    let b = c .before .before in
+    let a = b .before .args in
+    λ requester t.
+    ap (λ (m : Message). message requester (m .upper) (m .address) (m .value + a .v .0)) (b .msi-base .ensures .0 t)
+    ∙ base-message (a .s) (regs (now (a .c)) t) requester (a .v .0)
+
+pub msi-message-spec : {M : Type 1} → statement M
+msi-message-spec = tie.close (tie.spec msi-base-requires cast-t5 add-t6 returns)

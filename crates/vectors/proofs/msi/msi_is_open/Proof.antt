@@ -1,0 +1,27 @@
+-- One bit of the word; no vector is open at 32 or above. Assumes nothing.
+use mathlib.Core.Path.{sym, _∙_}
+use denote.Ref.{now}
+use borrow.Author.Needs.{needs}
+use Rattle.vectors.specs.Given.{regs}
+use Rattle.vectors.proofs.MsiLaws.{open-below}
+use Rattle.vectors.proofs.msi.msi_is_open.Statement.{statement}
+use Rattle.vectors.proofs.msi.msi_is_open.Tie as tie
+
+cast-n : tie.Need-cast-n
+cast-n c = search needs
+
+returns : tie.Need-returns
+returns c = let a = c .before .before .args in λ t. sym (open-below (a .s) (regs (now (a .c)) t) (a .v .0) (c .before .before .pre .capable) (c .if1 .taken))
+
+msi-open-requires : tie.Need-msi-open-requires
+msi-open-requires c κs = search needs
+
+word-bit-requires : tie.Need-word-bit-requires
+word-bit-requires c κs = search needs
+
+returns-2 : tie.Need-returns-2
+returns-2 c = λ t. c .word-bit .ensures ∙ c .before .msi-open .ensures t (c .before .before .before .before .args .v .0)
+
+pub msi-is-open-spec : {M : Type 1} → statement M
+msi-is-open-spec =
+    tie.close (tie.spec cast-n returns msi-open-requires word-bit-requires returns-2)

@@ -1,0 +1,43 @@
+-- One way out for each test. Assumes nothing.
+use mathlib.Core.Path.{sym, _∙_}
+use native.Mathlib.Omega.{arith}
+use denote.Ref.{now}
+use borrow.Author.Needs.{needs}
+use Rattle.model.specs.Shape.{tableBytes}
+use Rattle.vectors.specs.Given.{regs}
+use Rattle.vectors.proofs.MsixLaws.{no-vector, when-masked, when-clear}
+use Rattle.vectors.proofs.msix.msix_is_open.Statement.{statement}
+use Rattle.vectors.proofs.msix.msix_is_open.Tie as tie
+
+cast-n : tie.Need-cast-n
+cast-n c = search needs
+
+returns : tie.Need-returns
+returns c =
+    let a = c .before .before .before .before .args in
+    no-vector (a .s) (regs (now (a .c)) (now (a .table))) (a .v .0) (c .if1 .taken)
+
+entry-masked-requires : tie.Need-entry-masked-requires
+unfolding tableBytes
+entry-masked-requires c κs = omega (arith, c .before .before .before .before .pre .1)
+
+returns-2 : tie.Need-returns-2
+returns-2 c =
+    let a = c .before .before .before .before .before .before .args in
+    when-masked (a .s) (regs (now (a .c)) (now (a .table))) (a .v .0) (sym (c .before .entry-masked .ensures (a .s) (now (a .c))) ∙ c .if2 .taken)
+
+msix-enabled-requires : tie.Need-msix-enabled-requires
+msix-enabled-requires c κs = search needs
+
+returns-3 : tie.Need-returns-3
+returns-3 c =
+    let e = c .before in
+    let a = e .before .before .before .before .before .before .args in
+    c .msix-enabled .ensures (now (a .table))
+    ∙ when-clear (a .s) (regs (now (a .c)) (now (a .table))) (a .v .0) (e .before .before .if1 .left)
+    (sym (e .before .entry-masked .ensures (a .s) (now (a .c))) ∙ e .if2 .left)
+
+pub msix-is-open-spec : {M : Type 1} → statement M
+msix-is-open-spec =
+    tie.close
+    (tie.spec cast-n returns entry-masked-requires returns-2 msix-enabled-requires returns-3)

@@ -1,0 +1,47 @@
+-- One case for each mechanism. Assumes nothing.
+use mathlib.Core.Path.{sym}
+use denote.Ref.{now}
+use borrow.Author.Needs.{needs}
+use Rattle.vectors.specs.Given.{regs}
+use Rattle.vectors.proofs.OpenLaws.{pin-shut}
+use Rattle.vectors.proofs.open.is_open.Statement.{statement}
+use Rattle.vectors.proofs.open.is_open.Tie as tie
+
+enum-told : tie.Need-enum-told
+enum-told c = search needs
+
+enum-told-2 : tie.Need-enum-told-2
+enum-told-2 c = search needs
+
+msi-is-open-requires : tie.Need-msi-is-open-requires
+msi-is-open-requires c κs = search needs
+
+enum-told-3 : tie.Need-enum-told-3
+enum-told-3 c = search needs
+
+msix-is-open-requires : tie.Need-msix-is-open-requires
+msix-is-open-requires c κs = search needs
+
+returns : tie.Need-returns
+returns c =
+    let a = c .before .before .before .args in
+    rw (c .enum-told .given .1) (sym (pin-shut (a .s) (regs (now (a .c)) (now (a .table))) (a .v .0)))
+
+returns-2 : tie.Need-returns-2
+returns-2 c = let a = c .before .before .before .before .args in rw (c .before .enum-told2 .given .1) (c .msi-is-open .ensures (now (a .table)))
+
+returns-3 : tie.Need-returns-3
+returns-3 c = rw (c .before .enum-told3 .given .1) (c .msix-is-open .ensures)
+
+pub is-open-spec : {M : Type 1} → statement M
+is-open-spec =
+    tie.close
+    (tie.spec
+    enum-told
+    enum-told-2
+    msi-is-open-requires
+    enum-told-3
+    msix-is-open-requires
+    returns
+    returns-2
+    returns-3)

@@ -1,0 +1,45 @@
+-- One case for each mechanism. Assumes nothing.
+use borrow.Author.Needs.{needs}
+use Rattle.model.specs.Vectors.{waits}
+use Rattle.vectors.proofs.waiting.waits.Statement.{statement}
+use Rattle.vectors.proofs.waiting.waits.Tie as tie
+
+enum-told : tie.Need-enum-told
+enum-told c = search needs
+
+enum-told-2 : tie.Need-enum-told-2
+enum-told-2 c = search needs
+
+msi-waits-requires : tie.Need-msi-waits-requires
+msi-waits-requires c κs = search needs
+
+enum-told-3 : tie.Need-enum-told-3
+enum-told-3 c = search needs
+
+msix-waits-requires : tie.Need-msix-waits-requires
+msix-waits-requires c κs = search needs
+
+returns : tie.Need-returns
+unfolding waits
+returns c = λ u. rw (c .enum-told .given .1)
+
+returns-2 : tie.Need-returns-2
+unfolding waits
+returns-2 c = λ u. rw (c .before .enum-told2 .given .1) (c .msi-waits .ensures)
+
+returns-3 : tie.Need-returns-3
+unfolding waits
+returns-3 c = λ u. rw (c .before .enum-told3 .given .1) (c .msix-waits .ensures)
+
+pub waits-spec : {M : Type 1} → statement M
+waits-spec =
+    tie.close
+    (tie.spec
+    enum-told
+    enum-told-2
+    msi-waits-requires
+    enum-told-3
+    msix-waits-requires
+    returns
+    returns-2
+    returns-3)

@@ -1,0 +1,16 @@
+-- Byte 3Dh. Assumes nothing.
+use mathlib.Core.Path.{refl}
+use borrow.Author.Needs.{needs}
+use Rattle.model.specs.Release.{pinNumber}
+use Rattle.vectors.proofs.wire.pin_number.Statement.{statement}
+use Rattle.vectors.proofs.wire.pin_number.Tie as tie
+
+element-copy-out-result : tie.Need-element-copy-out-result
+element-copy-out-result c = search needs
+
+returns : tie.Need-returns
+unfolding pinNumber
+returns c = λ t. refl
+
+pub pin-number-spec : {M : Type 1} → statement M
+pin-number-spec = tie.close (tie.spec element-copy-out-result returns)

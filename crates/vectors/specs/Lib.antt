@@ -1,0 +1,4 @@
+pub mod Given
+pub mod Mapping
+pub mod Enabled
+pub mod Messages

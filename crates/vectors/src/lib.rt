@@ -1,0 +1,11 @@
+// Vectors of one function: the mechanism in force, who is open, waiting bits and messages.
+pub mod bits; // one bit of a byte, and of a register
+pub mod mode; // control bits and the mechanism in force
+pub mod granted; // the vectors that MSI is granted
+pub mod event; // from events to vectors
+pub mod wire; // the wire as it should be
+pub mod msi; // the open vectors of MSI
+pub mod msix; // the open vectors of MSI-X
+pub mod open; // a vector of any mechanism
+pub mod waiting; // waiting bits
+pub mod message; // the message of a vector
