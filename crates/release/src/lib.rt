@@ -1,0 +1,2 @@
+// The release of waiting vectors: how many bytes they send, and the sending.
+pub mod msi; // MSI: the vectors of a word
