@@ -1,6 +1,7 @@
 -- A loop over the set bits of a number: w & (w - 1) is w without its lowest set bit. Assumes nothing.
 use mathlib.Core.Path.{_≡_, sym, ap, _∙_}
-use mathlib.Core.Bool.{true}
+use mathlib.Core.Bool.{true, not, _&&_}
+use lib.Dec.{eqb}
 use mathlib.Core.List.{_∷_}
 use Prim.Native.Nat.{ℕ, zero, suc, _-_, _*_, _/_, _%_, _^_, _≤_, _<_}
 use native.Mathlib.Nat.{pow-suc}
@@ -9,7 +10,8 @@ use lib.Bits.{bitAnd, and-step, and-self}
 use borrow.Author.Tests.{eqb-true, eqb-false}
 use Rattle.words.specs.Bits.{bit, clearBit}
 use Rattle.words.specs.Lowest.{Lowest}
-use Rattle.words.proofs.BitLaws.{bit-zero, bit-suc}
+use Rattle.words.proofs.BitLaws.{bit-zero, bit-suc, bit-cleared}
+use Rattle.words.proofs.BoolLaws.{both}
 use Rattle.words.proofs.LowestLaws.{lowest-within, lowest-rest, clear-set, clear-less, power-le}
 use Rattle.release.specs.Owed.{setBits}
 
@@ -49,3 +51,20 @@ turn k w v u l =
       less = rw e (clear-less w v (l .set));
       rest = lowest-rest k w v u l ∙ ap (λ (x : ℕ). v ∷ setBits k x) (sym e);
     }
+
+-- the set bits that are left are some of those of w
+pub record Remaining (k w left : ℕ) : Type 0 where
+  pub fits : left < 2 ^ k
+  pub part : (j : ℕ) → bit left j ≡ true → bit w j ≡ true
+
+pub remaining-all : (k w : ℕ) → w < 2 ^ k → Remaining k w w
+remaining-all k w u = record { fits = u; part = λ j e. e }
+
+pub bit-next : (k w v : ℕ) → Turn k w v → (j : ℕ) → bit (bitAnd w (w - 1)) j ≡ (bit w j && not (eqb j v))
+bit-next k w v t j = ap (λ (x : ℕ). bit x j) (t .next) ∙ bit-cleared w v j
+
+pub remaining-next : (k w left v : ℕ) → Remaining k w left → Turn k left v → Remaining k w (bitAnd left (left - 1))
+remaining-next k w left v m t = record {
+  fits = omega (arith, t .less, m .fits);
+  part = λ j e. m .part j (both (bit left j) (not (eqb j v)) (sym (bit-next k left v t j) ∙ e) .0);
+}

@@ -51,11 +51,20 @@ entryPackets requester table vs = join (entryMessage requester table) vs
 unfoldable pub clearPending : List ℕ → List ℕ → List ℕ
 clearPending pending vs = clearAll Msix (endpointOf zeroFunction [] pending) vs .pending
 
--- ---- what the code asks of the lent buffers, and of a word of 64 vectors from vector base on
-
+-- what the code asks of the lent buffers
 pub record Lent (table pending : List ℕ) : Type 0 where
   pub whole : length pending % 8 ≡ 0
   pub beyond : (v : ℕ) → entries table ≤ v → waitsAt pending v ≡ false
 
+-- ---- a word of 64 vectors, from vector base on
+
+-- each set bit has an entry
 abbrev pub Backed : List ℕ → ℕ → ℕ → Type 0
 Backed table base w = (j : ℕ) → bit w j ≡ true → base + j < entries table
+
+-- those whose entry is not masked
+abbrev pub Unmasked : List ℕ → ℕ → ℕ → ℕ → Type 0
+Unmasked table base w r = (j : ℕ) → bit r j ≡ (bit w j && not (maskedAt table (base + j)))
+
+abbrev pub wordPackets : (requester : ℕ) → List ℕ → ℕ → ℕ → List ℕ
+wordPackets requester table base w = join (λ j. entryMessage requester table (base + j)) (setBits 64 w)
