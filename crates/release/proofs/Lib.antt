@@ -3,3 +3,7 @@ pub mod Sending
 pub mod Joins
 pub mod Masking
 pub mod Entries
+pub mod PendingWords
+pub mod Clearing
+pub mod WordClear
+pub mod Releases

@@ -7,6 +7,7 @@ use lib.ListN.{length}
 use Rattle.words.specs.Lists.{count, keep, join}
 use Rattle.words.specs.Bits.{bit}
 use Rattle.words.specs.Bytes.{byte, bitAt, word32}
+use Rattle.words.specs.Writers.{Wrote}
 use Rattle.model.specs.declared.Mode.the-variants.{Msix}
 use Rattle.model.specs.World.{endpointOf, zeroFunction}
 use Rattle.model.specs.Packets.{message}
@@ -53,7 +54,7 @@ clearPending pending vs = clearAll Msix (endpointOf zeroFunction [] pending) vs 
 
 -- what the code asks of the lent buffers
 pub record Lent (table pending : List ℕ) : Type 0 where
-  pub whole : length pending % 8 ≡ 0
+  pub words : length pending ≡ 8 * ((entries table + 63) / 64)
   pub beyond : (v : ℕ) → entries table ≤ v → waitsAt pending v ≡ false
 
 -- ---- a word of 64 vectors, from vector base on
@@ -65,6 +66,15 @@ Backed table base w = (j : ℕ) → bit w j ≡ true → base + j < entries tabl
 -- those whose entry is not masked
 abbrev pub Unmasked : List ℕ → ℕ → ℕ → ℕ → Type 0
 Unmasked table base w r = (j : ℕ) → bit r j ≡ (bit w j && not (maskedAt table (base + j)))
+
+-- of the vectors from byte `at` of the pending array on, those that a word owes
+abbrev pub owedWord : List ℕ → List ℕ → ℕ → List ℕ
+owedWord table pending at = keep (owes table pending) (count (8 * at) 64)
+
+-- the packets of vectors vs are written, and their bits cleared
+pub record Released (requester : ℕ) (table vs p o : List ℕ) (r : ℕ) (p′ o′ : List ℕ) : Type 0 where
+  pub sent : Wrote (entryPackets requester table vs) o r o′
+  pub cleared : p′ ≡ clearPending p vs
 
 abbrev pub wordPackets : (requester : ℕ) → List ℕ → ℕ → ℕ → List ℕ
 wordPackets requester table base w = join (λ j. entryMessage requester table (base + j)) (setBits 64 w)
