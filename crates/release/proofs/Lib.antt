@@ -1,0 +1,9 @@
+pub mod SetBits
+pub mod Sending
+pub mod Joins
+pub mod Masking
+pub mod Entries
+pub mod PendingWords
+pub mod Clearing
+pub mod WordClear
+pub mod Releases

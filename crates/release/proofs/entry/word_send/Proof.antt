@@ -1,0 +1,122 @@
+-- Each turn writes the message of the lowest vector that is left. Assumes nothing.
+use mathlib.Core.Path.{_≡_}
+use mathlib.Core.List.{List, _++_}
+use Prim.Native.Nat.{ℕ, _+_, _-_, _≤_, _<_}
+use native.Mathlib.Omega.{arith}
+use lib.Bits.{bitAnd}
+use lib.ListN.{length, length-take, length-drop}
+use denote.Ref.{now}
+use Rattle.words.proofs.Writers.{placed}
+use Rattle.words.proofs.OnesLaws.{no-set-bits}
+use Rattle.release.specs.Owed.{entries, entryMessage, wordPackets}
+use Rattle.release.proofs.SetBits.{Turn, turn, Remaining, remaining-all, remaining-next}
+use Rattle.release.proofs.Joins.{join-first, join-none}
+use Rattle.release.proofs.Sending.{Sending, sending-all, sending-fits, sending-next, sending-done}
+use borrow.Author.Needs.{needs}
+use Rattle.release.proofs.entry.word_send.Statement.{statement}
+use Rattle.release.proofs.entry.word_send.Tie as tie
+
+abbrev Inv-loop : tie.InvT-loop
+Inv-loop out₀ table base w requester left₀ at₀ out left at =
+    Remaining 64 w left × Sending (wordPackets requester table base w) out₀ out (wordPackets requester table base left) at
+
+abbrev μ-loop : tie.MeasureT-loop
+μ-loop out₀ table base w requester left₀ at₀ out left at = left
+
+-- a turn at the lowest vector v: its message is the first of those that are left, and there is room for it
+module _ (c : tie.After-lowest Inv-loop μ-loop) where
+  abbrev v : ℕ
+  v = c .lowest .result
+
+  t : Turn 64 (c .before .before .loop .left) v
+  t = turn 64 (c .before .before .loop .left) v (c .before .before .loop .inv .0 .fits) (c .lowest .ensures)
+
+  within : c .before .before .before .before .before .args .base + v < entries (now (c .before .before .before .before .before .args .table))
+  within = c .before .before .before .before .before .pre .0 v (c .before .before .loop .inv .0 .part v (t .set))
+
+  abbrev p : List ℕ
+  p = let a = c .before .before .before .before .before .args in entryMessage (a .requester) (now (a .table)) (a .base + v)
+
+  abbrev todo : ℕ → List ℕ
+  todo w = let a = c .before .before .before .before .before .args in wordPackets (a .requester) (now (a .table)) (a .base) w
+
+  abbrev rest : List ℕ
+  rest = todo (bitAnd (c .before .before .loop .left) (c .before .before .loop .left - 1))
+
+  first : todo (c .before .before .loop .left) ≡ p ++ rest
+  first = join-first (λ j. let a = c .before .before .before .before .before .args in entryMessage (a .requester) (now (a .table)) (a .base + j)) v _ _ (t .rest)
+
+  fits : c .before .before .loop .at + length p ≤ length (c .before .before .loop .out)
+  fits = sending-fits _ _ _ (todo (c .before .before .loop .left)) _ p rest (c .before .before .before .before .before .pre .1) (c .before .before .loop .inv .1) first
+
+loop-holds : tie.Need-loop-holds Inv-loop μ-loop
+loop-holds c = (remaining-all 64 _ (search needs), sending-all _ _)
+
+lowest-requires : tie.Need-lowest-requires Inv-loop μ-loop
+lowest-requires c κs = search needs
+
+sub-put-entry : tie.Need-sub-put-entry Inv-loop μ-loop
+sub-put-entry c = omega (arith, fits c)
+
+part-put-entry-start : tie.Need-part-put-entry-start Inv-loop μ-loop
+part-put-entry-start c = omega (arith, fits c)
+
+part-put-entry-end : tie.Need-part-put-entry-end Inv-loop μ-loop
+part-put-entry-end c = search needs
+
+cast-put-entry : tie.Need-cast-put-entry Inv-loop μ-loop
+cast-put-entry c = omega (arith, t (c .before) .within)
+
+add-put-entry : tie.Need-add-put-entry Inv-loop μ-loop
+add-put-entry c = omega (arith, within (c .before))
+
+put-entry-requires : tie.Need-put-entry-requires Inv-loop μ-loop
+put-entry-requires c κs = (within (c .before), simp (length-take, length-drop) (omega (arith, fits (c .before))))
+
+add-at : tie.Need-add-at Inv-loop μ-loop
+add-at c = omega (arith, fits (c .before .before .before .before), c .before .before .put-entry .ensures .count)
+
+sub-left : tie.Need-sub-left Inv-loop μ-loop
+sub-left c = search needs
+
+loop-less : tie.Need-loop-less Inv-loop μ-loop
+loop-less c = t (c .before .before .before .before) .less
+
+loop-again : tie.Need-loop-again Inv-loop μ-loop
+loop-again c = let d = c .before .before .before .before in
+    let l = d .before .before .loop in
+    let call = c .before .before .put-entry in (
+      remaining-next 64 _ (l .left) (v d) (l .inv .0) (t d),
+      sending-next _ _ (l .out) (todo d (l .left)) (l .at) (p d) (rest d) _ (call .result) (d .before .before .before .before .before .pre .1) (l .inv .1) (first d)
+          (call .ensures .count)
+          (c .before .out .given .1)
+          (placed (l .out) (l .at) (p d) (call .last .0) (call .ensures .bytes)),
+    )
+
+same-length : tie.Need-same-length Inv-loop μ-loop
+same-length c = c .before .loop .inv .1 .same
+
+returns : tie.Need-returns Inv-loop μ-loop
+returns c = let l = c .before .loop in
+    sending-done _ _ (l .out) _ (l .at) (l .inv .1) (join-none _ _ (rw (c .loop-test .left) (no-set-bits 64)))
+
+pub word-send-spec : {M : Type 1} → statement M
+word-send-spec =
+    tie.close
+    (tie.spec
+    Inv-loop
+    μ-loop
+    loop-holds
+    lowest-requires
+    sub-put-entry
+    part-put-entry-start
+    part-put-entry-end
+    cast-put-entry
+    add-put-entry
+    put-entry-requires
+    add-at
+    sub-left
+    loop-less
+    loop-again
+    same-length
+    returns)

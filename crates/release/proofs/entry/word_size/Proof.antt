@@ -1,0 +1,117 @@
+-- Each turn counts the message of the lowest vector that is left. Assumes nothing.
+use mathlib.Core.Path.{_≡_, sym, ap, _∙_}
+use Prim.Native.Nat.{ℕ, _+_, _-_, _<_}
+use native.Mathlib.Nat.{zero-add}
+use native.Mathlib.Omega.{arith}
+use lib.Bits.{bitAnd}
+use lib.ListN.{length, length-append}
+use denote.Ref.{now}
+use Rattle.words.proofs.OnesLaws.{no-set-bits}
+use Rattle.model.specs.Packets.{messageSize}
+use Rattle.release.specs.Owed.{setBits, entries, entryMessage, wordPackets}
+use Rattle.release.proofs.SetBits.{Turn, turn, Remaining, remaining-all, remaining-next}
+use Rattle.release.proofs.Joins.{join-first, join-none}
+use Rattle.release.proofs.Entries.{entry-length, word-le}
+use borrow.Author.Needs.{needs}
+use Rattle.release.proofs.entry.word_size.Statement.{statement}
+use Rattle.release.proofs.entry.word_size.Tie as tie
+
+abbrev Inv-loop : tie.InvT-loop
+Inv-loop table base w left₀ n₀ left n =
+    Remaining 64 w left × ((requester : ℕ) → n + length (wordPackets requester table base left) ≡ length (wordPackets requester table base w))
+
+abbrev μ-loop : tie.MeasureT-loop
+μ-loop table base w left₀ n₀ left n = left
+
+module _ (c : tie.After-lowest Inv-loop μ-loop) where
+  abbrev v : ℕ
+  v = c .lowest .result
+
+  t : Turn 64 (c .before .before .loop .left) v
+  t = turn 64 (c .before .before .loop .left) v (c .before .before .loop .inv .0 .fits) (c .lowest .ensures)
+
+  within : c .before .before .before .before .args .base + v < entries (now (c .before .before .before .before .args .table))
+  within = c .before .before .before .before .pre v (c .before .before .loop .inv .0 .part v (t .set))
+
+-- the size of a turn's message, and those of the rest
+more : (c : tie.After-message-size Inv-loop μ-loop) (requester : ℕ)
+    → let d = c .before .before .before .before in
+    let a = d .before .before .args in
+    length (wordPackets requester (now (a .table)) (a .base) (d .loop .left))
+    ≡ c .message-size .result + length (wordPackets requester (now (a .table)) (a .base) (bitAnd (d .loop .left) (d .loop .left - 1)))
+more c requester =
+    let b = c .before .before in
+    let a = b .before .before .before .before .args in
+    let l = b .before .before .loop .left in
+    let p = entryMessage requester (now (a .table)) (a .base + v b) in
+    let q = wordPackets requester (now (a .table)) (a .base) (bitAnd l (l - 1)) in
+    ap length (join-first (λ j. entryMessage requester (now (a .table)) (a .base + j)) (v b) _ _ (t b .rest)) ∙ length-append p q
+    ∙ ap (λ (n : ℕ). n + length q) (entry-length requester (now (a .table)) (a .base + v b) ∙ sym (c .message-size .ensures ∙ ap messageSize (c .before .word32 .ensures)))
+
+loop-holds : tie.Need-loop-holds Inv-loop μ-loop
+loop-holds c = (remaining-all 64 _ (search needs), λ requester. zero-add _)
+
+lowest-requires : tie.Need-lowest-requires Inv-loop μ-loop
+lowest-requires c κs = search needs
+
+cast-word32 : tie.Need-cast-word32 Inv-loop μ-loop
+cast-word32 c = omega (arith, t c .within)
+
+add-word32 : tie.Need-add-word32 Inv-loop μ-loop
+add-word32 c = omega (arith, within c)
+
+mul-word32 : tie.Need-mul-word32 Inv-loop μ-loop
+mul-word32 c = omega (arith, within c)
+
+add-word32-2 : tie.Need-add-word32-2 Inv-loop μ-loop
+add-word32-2 c = omega (arith, within c)
+
+word32-requires : tie.Need-word32-requires Inv-loop μ-loop
+word32-requires c κs = omega (arith, within c)
+
+message-size-requires : tie.Need-message-size-requires Inv-loop μ-loop
+message-size-requires c κs = search needs
+
+add-n : tie.Need-add-n Inv-loop μ-loop
+add-n c =
+    let d = c .before .before .before .before in
+    let a = d .before .before .args in
+    omega (arith, more c 0, d .loop .inv .1 0, word-le 0 (now (a .table)) (a .base) (a .w))
+
+sub-left : tie.Need-sub-left Inv-loop μ-loop
+sub-left c = search needs
+
+loop-less : tie.Need-loop-less Inv-loop μ-loop
+loop-less c = t (c .before .before) .less
+
+loop-again : tie.Need-loop-again Inv-loop μ-loop
+loop-again c =
+    let b = c .before .before in
+    let l = b .before .before .loop in
+    (remaining-next 64 _ (l .left) (v b) (l .inv .0) (t b), λ requester. omega (arith, more c requester, l .inv .1 requester))
+
+returns : tie.Need-returns Inv-loop μ-loop
+returns c requester =
+    let a = c .before .before .before .args in
+    let l = c .before .loop in
+    omega (arith, l .inv .1 requester, ap length (join-none (λ j. entryMessage requester (now (a .table)) (a .base + j)) (setBits 64 (l .left)) (rw (c .loop-test .left) (no-set-bits 64))))
+
+pub word-size-spec : {M : Type 1} → statement M
+word-size-spec =
+    tie.close
+    (tie.spec
+    Inv-loop
+    μ-loop
+    loop-holds
+    lowest-requires
+    cast-word32
+    add-word32
+    mul-word32
+    add-word32-2
+    word32-requires
+    message-size-requires
+    add-n
+    sub-left
+    loop-less
+    loop-again
+    returns)

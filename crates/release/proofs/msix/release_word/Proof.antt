@@ -1,0 +1,96 @@
+-- A word with nothing to send stays; else its open bits are sent and cleared. Assumes nothing.
+use mathlib.Core.Path.{ap}
+use mathlib.Core.List.{List}
+use Prim.Native.Nat.{ℕ, _-_, _^_}
+use native.Mathlib.Omega.{arith}
+use lib.Bits.{bitAnd}
+use lib.ListN.{length}
+use denote.Ref.{now}
+use Rattle.words.specs.Bytes.{bytesOf, Bytes}
+use Rattle.words.proofs.Writers.{placed}
+use Rattle.release.proofs.PendingWords.{word-empty, word-packets, open-backed}
+use Rattle.release.proofs.Releases.{released-none, released-word}
+use borrow.Author.Needs.{needs}
+use Rattle.release.proofs.msix.release_word.Statement.{statement}
+use Rattle.release.proofs.msix.release_word.Tie as tie
+
+module _ (o : tie.After-open-word) where
+  abbrev start : tie.Start
+  start = o .before .before .before .before .before
+
+  abbrev t : List ℕ
+  t = now (start .args .table)
+
+  abbrev p : List ℕ
+  p = now (start .args .pending)
+
+  bytes : Bytes p
+  bytes i = o .before .before .slice-known2 .given i .fits
+
+open-word-requires : tie.Need-open-word-requires
+open-word-requires c κs = search needs
+
+same-length : tie.Need-same-length
+same-length c = search needs
+
+returns : tie.Need-returns
+returns c = let o = c .before in
+    released-none _ _ _ _ _ (word-empty (t o) (p o) (start o .args .at) (o .open-word .result) (bytes o) (o .open-word .ensures) (c .if1 .taken))
+
+word64-requires : tie.Need-word64-requires
+word64-requires c κs = search needs
+
+sub-put-le : tie.Need-sub-put-le
+sub-put-le c = search needs
+
+part-put-le-start : tie.Need-part-put-le-start
+part-put-le-start c = search needs
+
+part-put-le-end : tie.Need-part-put-le-end
+part-put-le-end c = search needs
+
+put-le-requires : tie.Need-put-le-requires
+put-le-requires c κs = search needs
+
+mul-word-send : tie.Need-mul-word-send
+mul-word-send c = search needs
+
+word-send-requires : tie.Need-word-send-requires
+word-send-requires c κs = let o = c .before .before .before .before .before .before .before .before in
+    let a = start o .args in (
+      open-backed (t o) (p o) (a .at) (o .open-word .result) (bytes o) (start o .pre .0) (o .open-word .ensures),
+      omega (arith, ap length (word-packets (t o) (p o) (a .at) (o .open-word .result) (bytes o) (o .open-word .ensures) (a .requester)), start o .pre .2),
+    )
+
+same-length-2 : tie.Need-same-length-2
+same-length-2 c = search needs
+
+same-length-3 : tie.Need-same-length-3
+same-length-3 c = search needs
+
+returns-2 : tie.Need-returns-2
+returns-2 c = let e = c .before .before .before .before .before .before in
+    let o = e .before .before .before .before .before in
+    let a = start o .args in
+    let r = o .open-word .result in
+    released-word _ (t o) (p o) _ (a .at) r (e .before .before .word64 .result) _ _ _ (bytes o) (start o .pre .1) (omega (arith, o .open-word .ok)) (e .before .before .word64 .ensures)
+    (o .open-word .ensures) (c .before .before .word-send .ensures)
+    (placed (p o) (a .at) (bytesOf 8 (bitAnd ((2 ^ 64 - 1) - r) (e .before .before .word64 .result))) (e .put-le .last .0) (e .put-le .ensures .bytes))
+
+pub release-word-spec : {M : Type 1} → statement M
+release-word-spec =
+    tie.close
+    (tie.spec
+    open-word-requires
+    same-length
+    returns
+    word64-requires
+    sub-put-le
+    part-put-le-start
+    part-put-le-end
+    put-le-requires
+    mul-word-send
+    word-send-requires
+    same-length-2
+    same-length-3
+    returns-2)
