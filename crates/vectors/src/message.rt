@@ -10,7 +10,7 @@ ghost use Rattle.model.specs.Packets.{message, messageSize, messageOf, msiUpper
 ghost use Rattle.vectors.specs.Given.{regs, FitShape};
 ghost use Rattle.vectors.specs.Messages.{msiBase};
 use crate::granted::granted;
-use endpoint::form::form;
+use layout::form::form;
 use model::Mode;
 use model::Shape;
 use model::Vector;

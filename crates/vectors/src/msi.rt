@@ -11,7 +11,7 @@ use crate::granted::granted;
 use crate::mode::command_bit;
 use crate::mode::is_msi;
 use crate::mode::mode;
-use endpoint::form::form;
+use layout::form::form;
 use model::Mode;
 use model::Shape;
 use model::Vector;

@@ -1,6 +1,6 @@
 -- The two parts of the test. Assumes nothing.
 use borrow.Author.Needs.{needs}
-use Rattle.endpoint.proofs.Checks.{msi-absent, msi-there}
+use Rattle.layout.proofs.Checks.{msi-absent, msi-there}
 use Rattle.vectors.proofs.mode.msi_on.Statement.{statement}
 use Rattle.vectors.proofs.mode.msi_on.Tie as tie
 

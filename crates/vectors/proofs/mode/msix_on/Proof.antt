@@ -1,6 +1,6 @@
 -- The two parts of the test. Assumes nothing.
 use borrow.Author.Needs.{needs}
-use Rattle.endpoint.proofs.Checks.{msix-absent, msix-there}
+use Rattle.layout.proofs.Checks.{msix-absent, msix-there}
 use Rattle.vectors.proofs.mode.msix_on.Statement.{statement}
 use Rattle.vectors.proofs.mode.msix_on.Tie as tie
 

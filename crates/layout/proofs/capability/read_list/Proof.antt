@@ -1,0 +1,116 @@
+-- `read_list` meets its contract. The loop's invariant: the rest of the walk, applied to what was found so far, gives the whole listing. Assumes nothing.
+use mathlib.Core.Path.{_≡_, ap, _∙_}
+use Prim.Native.Nat.{ℕ, _-_, _≤_}
+use native.Mathlib.Omega.{arith}
+use denote.Ref.{now}
+use Rattle.model.specs.Capabilities.{walk}
+use Rattle.layout.specs.Places.{found, listingOf}
+use Rattle.layout.proofs.Walks.{onward, onward-list, turn-ends, turn-low, turn-full, turn-more}
+use borrow.Author.Needs.{needs}
+use Rattle.layout.proofs.capability.read_list.Statement.{statement}
+use Rattle.layout.proofs.capability.read_list.Tie as tie
+
+abbrev Inv-loop : tie.InvT-loop
+Inv-loop c msi₀ msix₀ p₀ n₀ msi msix p n =
+    (n ≤ 48) × (msi .times ≤ n) × (msix .times ≤ n) × (onward c msi msix (walk c (48 - n) p) ≡ listingOf c)
+
+abbrev μ-loop : tie.MeasureT-loop
+μ-loop c msi₀ msix₀ p₀ n₀ msi msix p n = 48 - n
+
+first-pointer-requires : tie.Need-first-pointer-requires Inv-loop μ-loop
+first-pointer-requires c κs = search needs
+
+loop-holds : tie.Need-loop-holds Inv-loop μ-loop
+loop-holds c =
+    let f = now (c .before .args .c) in (
+      omega arith,
+      omega arith,
+      omega arith,
+      ap (λ (p : ℕ). onward f (found 0 0) (found 0 0) (walk f 48 p)) (c .first-pointer .ensures) ∙ onward-list f,
+    )
+
+place-requires : tie.Need-place-requires Inv-loop μ-loop
+place-requires c κs = search needs
+
+returns : tie.Need-returns Inv-loop μ-loop
+returns c =
+    let v = c .before .before .loop in
+    turn-ends (now (c .before .before .before .before .args .c)) (v .msi) (v .msix) (v .n) (v .p)
+    (c .before .place .result) _ (c .before .place .ensures .0)
+    (v .inv .3) (c .if1 .taken)
+
+broken-list-requires : tie.Need-broken-list-requires Inv-loop μ-loop
+broken-list-requires c κs = search needs
+
+returns-2 : tie.Need-returns-2 Inv-loop μ-loop
+returns-2 c = c .broken-list .ensures
+    ∙ let v = c .before .before .before .before .loop in
+    turn-low (now (c .before .before .before .before .before .before .args .c)) (v .msi) (v .msix) (v .n) (v .p)
+    (c .before .before .before .place .result) _ (c .before .before .before .place .ensures .0)
+    (v .inv .3) (c .before .before .if1 .left) (c .before .if2 .taken)
+
+broken-list-requires-2 : tie.Need-broken-list-requires-2 Inv-loop μ-loop
+broken-list-requires-2 c κs = search needs
+
+returns-3 : tie.Need-returns-3 Inv-loop μ-loop
+returns-3 c = c .broken-list2 .ensures
+    ∙ let v = c .before .before .before .before .before .loop in
+    turn-full (now (c .before .before .before .before .before .before .before .args .c)) (v .msi) (v .msix) (v .n) (v .p)
+    (c .before .before .before .before .place .result) _ (c .before .before .before .before .place .ensures .0)
+    (v .inv .3) (c .before .before .before .if1 .left) (c .before .if3 .taken)
+
+element-copy-out-id : tie.Need-element-copy-out-id Inv-loop μ-loop
+element-copy-out-id c = search needs
+
+with-requires : tie.Need-with-requires Inv-loop μ-loop
+with-requires c κs = search needs
+
+with-requires-2 : tie.Need-with-requires-2 Inv-loop μ-loop
+with-requires-2 c κs = search needs
+
+add-p : tie.Need-add-p Inv-loop μ-loop
+add-p c = search needs
+
+element-copy-out-p : tie.Need-element-copy-out-p Inv-loop μ-loop
+element-copy-out-p c = search needs
+
+add-n : tie.Need-add-n Inv-loop μ-loop
+add-n c = search needs
+
+loop-less : tie.Need-loop-less Inv-loop μ-loop
+loop-less c = search needs
+
+loop-again : tie.Need-loop-again Inv-loop μ-loop
+loop-again c = (
+  search needs,
+  search needs,
+  search needs,
+  rw (c .before .with2 .ensures .0, c .before .before .with .ensures .0)
+      (let v = c .before .before .before .before .before .before .before .before .loop in
+      turn-more (now (c .before .before .before .before .before .before .before .before .before .before .args .c)) (v .msi) (v .msix) (v .n) (v .p)
+      (c .before .before .before .before .before .before .before .place .result) _ (c .before .before .before .before .before .before .before .place .ensures .0)
+      (v .inv .3) (c .before .before .before .before .before .before .if1 .left) (c .before .before .before .before .before .if2 .left) (search needs)),
+)
+
+pub read-list-spec : {M : Type 1} → statement M
+read-list-spec =
+    tie.close
+    (tie.spec
+    Inv-loop
+    μ-loop
+    first-pointer-requires
+    loop-holds
+    place-requires
+    returns
+    broken-list-requires
+    returns-2
+    broken-list-requires-2
+    returns-3
+    element-copy-out-id
+    with-requires
+    with-requires-2
+    add-p
+    element-copy-out-p
+    add-n
+    loop-less
+    loop-again)

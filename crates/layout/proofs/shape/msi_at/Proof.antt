@@ -1,0 +1,41 @@
+-- `msi_at` meets its contract: the control register is read off its two bytes. Assumes nothing.
+use denote.Ref.{now}
+use Rattle.layout.proofs.ShapeFound.{msi-read}
+use borrow.Author.Needs.{needs}
+use Rattle.layout.proofs.shape.msi_at.Statement.{statement}
+use Rattle.layout.proofs.shape.msi_at.Tie as tie
+
+add-wide : tie.Need-add-wide
+add-wide c = search needs
+
+shared-slice-read-wide : tie.Need-shared-slice-read-wide
+shared-slice-read-wide c = search needs
+
+wide-requires : tie.Need-wide-requires
+wide-requires c κs = search needs
+
+add-wide-2 : tie.Need-add-wide-2
+add-wide-2 c = search needs
+
+shared-slice-read-wide-2 : tie.Need-shared-slice-read-wide-2
+shared-slice-read-wide-2 c = search needs
+
+wide-requires-2 : tie.Need-wide-requires-2
+wide-requires-2 c κs = search needs
+
+returns : tie.Need-returns
+returns c =
+    let a = c .before .before .before .before .before .args in
+    msi-read (now (a .c)) (a .a) (c .before .before .wide .result) (c .wide2 .result) (c .before .before .wide .ensures .0) (c .wide2 .ensures .0)
+
+pub msi-at-spec : {M : Type 1} → statement M
+msi-at-spec =
+    tie.close
+    (tie.spec
+    add-wide
+    shared-slice-read-wide
+    wide-requires
+    add-wide-2
+    shared-slice-read-wide-2
+    wide-requires-2
+    returns)

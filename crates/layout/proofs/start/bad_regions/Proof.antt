@@ -1,0 +1,79 @@
+-- `bad_regions` meets its contract: one law for each way out. Assumes nothing.
+use denote.Ref.{now}
+use mathlib.Core.Path.{sym, _∙_}
+use Rattle.model.specs.Start.{badRegions}
+use Rattle.layout.proofs.Checks.{msix-absent, region-1, region-2, region-3, region-4}
+use borrow.Author.Needs.{needs}
+use Rattle.layout.proofs.start.bad_regions.Statement.{statement}
+use Rattle.layout.proofs.start.bad_regions.Tie as tie
+
+returns : tie.Need-returns
+unfolding badRegions
+returns c = rw (msix-absent (c .before .before .args .s) (c .if1 .taken))
+
+table-bytes-requires : tie.Need-table-bytes-requires
+table-bytes-requires c κs = search needs
+
+pending-bytes-requires : tie.Need-pending-bytes-requires
+pending-bytes-requires c κs = search needs
+
+outside-requires : tie.Need-outside-requires
+outside-requires c κs = search needs
+
+returns-2 : tie.Need-returns-2
+returns-2 c =
+    let p = c .before .before in
+    let a = p .before .before .before .before .before .before .args in
+    region-1 (now (a .sizes)) (a .s) (p .before .table-bytes .result) (p .pending-bytes .result)
+    (p .before .table-bytes .ensures .0) (p .pending-bytes .ensures .0) (p .before .before .before .before .if1 .left)
+    (sym (c .before .outside .ensures) ∙ c .if2 .taken)
+
+outside-requires-2 : tie.Need-outside-requires-2
+outside-requires-2 c κs = search needs
+
+returns-3 : tie.Need-returns-3
+returns-3 c =
+    let p = c .before .before .before .before in
+    let a = p .before .before .before .before .before .before .args in
+    region-2 (now (a .sizes)) (a .s) (p .before .table-bytes .result) (p .pending-bytes .result)
+    (p .before .table-bytes .ensures .0) (p .pending-bytes .ensures .0) (p .before .before .before .before .if1 .left)
+    (sym (c .before .before .before .outside .ensures) ∙ c .before .before .if2 .left)
+    (sym (c .before .outside2 .ensures) ∙ c .if3 .taken)
+
+returns-4 : tie.Need-returns-4
+returns-4 c =
+    let p = c .before .before .before .before .before .before .before in
+    let a = p .before .before .before .before .before .before .args in
+    region-3 (now (a .sizes)) (a .s) (p .before .table-bytes .result) (p .pending-bytes .result)
+    (p .before .table-bytes .ensures .0) (p .pending-bytes .ensures .0) (p .before .before .before .before .if1 .left)
+    (sym (c .before .before .before .before .before .before .outside .ensures) ∙ c .before .before .before .before .before .if2 .left)
+    (sym (c .before .before .before .before .outside2 .ensures) ∙ c .before .before .before .if3 .left)
+    (c .if4 .taken)
+
+overlap-requires : tie.Need-overlap-requires
+overlap-requires c κs = search needs
+
+returns-5 : tie.Need-returns-5
+returns-5 c = c .overlap .ensures ∙
+    let p = c .before .before .before .before .before .before .before .before in
+    let a = p .before .before .before .before .before .before .args in
+    region-4 (now (a .sizes)) (a .s) (p .before .table-bytes .result) (p .pending-bytes .result)
+    (p .before .table-bytes .ensures .0) (p .pending-bytes .ensures .0) (p .before .before .before .before .if1 .left)
+    (sym (c .before .before .before .before .before .before .before .outside .ensures) ∙ c .before .before .before .before .before .before .if2 .left)
+    (sym (c .before .before .before .before .before .outside2 .ensures) ∙ c .before .before .before .before .if3 .left)
+    (c .before .if4 .left)
+
+pub bad-regions-spec : {M : Type 1} → statement M
+bad-regions-spec =
+    tie.close
+    (tie.spec
+    returns
+    table-bytes-requires
+    pending-bytes-requires
+    outside-requires
+    returns-2
+    outside-requires-2
+    returns-3
+    returns-4
+    overlap-requires
+    returns-5)

@@ -1,0 +1,26 @@
+-- `bad_msi` meets its contract. Assumes nothing.
+use mathlib.Core.Path.{_∙_}
+use borrow.Author.Tests.{lt-ltb, le-ltb}
+use Rattle.layout.proofs.Checks.{msi-absent, msi-there}
+use Rattle.layout.specs.Checks.{badMsi}
+use borrow.Author.Needs.{needs}
+use Rattle.layout.proofs.structure.bad_msi.Statement.{statement}
+use Rattle.layout.proofs.structure.bad_msi.Tie as tie
+
+returns : tie.Need-returns
+unfolding badMsi
+returns c = rw (msi-absent (c .before .before .args .s) (c .if1 .taken))
+
+returns-2 : tie.Need-returns-2
+unfolding badMsi
+returns-2 c = rw (msi-there (c .before .before .before .before .args .s) (c .before .before .if1 .left), lt-ltb _ _ (c .if2 .taken))
+
+misplaced-requires : tie.Need-misplaced-requires
+misplaced-requires c κs = search needs
+
+returns-3 : tie.Need-returns-3
+unfolding badMsi
+returns-3 c = c .misplaced .ensures ∙ rw (msi-there (c .before .before .before .before .before .args .s) (c .before .before .before .if1 .left), le-ltb _ _ (c .before .if2 .left))
+
+pub bad-msi-spec : {M : Type 1} → statement M
+bad-msi-spec = tie.close (tie.spec returns returns-2 misplaced-requires returns-3)

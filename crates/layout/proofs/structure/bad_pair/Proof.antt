@@ -1,0 +1,27 @@
+-- `bad_pair` meets its contract. Assumes nothing.
+use mathlib.Core.Path.{_∙_}
+use Rattle.layout.proofs.Checks.{msi-absent, msi-there, msix-absent, msix-there}
+use Rattle.layout.specs.Checks.{badPair}
+use borrow.Author.Needs.{needs}
+use Rattle.layout.proofs.structure.bad_pair.Statement.{statement}
+use Rattle.layout.proofs.structure.bad_pair.Tie as tie
+
+returns : tie.Need-returns
+unfolding badPair
+returns c = rw (msi-absent (c .before .before .args .s) (c .if1 .taken))
+
+returns-2 : tie.Need-returns-2
+unfolding badPair
+returns-2 c = rw (msi-there (c .before .before .before .before .args .s) (c .before .before .if1 .left), msix-absent (c .before .before .before .before .args .s) (c .if2 .taken))
+
+overlap-requires : tie.Need-overlap-requires
+overlap-requires c κs = search needs
+
+returns-3 : tie.Need-returns-3
+unfolding badPair
+returns-3 c =
+    let s = c .before .before .before .before .before .args .s in
+    c .overlap .ensures ∙ rw (msi-there s (c .before .before .before .if1 .left), msix-there s (c .before .if2 .left))
+
+pub bad-pair-spec : {M : Type 1} → statement M
+bad-pair-spec = tie.close (tie.spec returns returns-2 overlap-requires returns-3)

@@ -1,0 +1,116 @@
+-- `misplaced` meets its contract. The loop's invariant: the rest of the list is not broken, and all of it stands apart exactly if the whole list does. Assumes nothing.
+use denote.Ref.{now}
+use mathlib.Core.Path.{_≡_, refl, sym, ap, _∙_}
+use native.Mathlib.Omega.{arith}
+use Rattle.layout.proofs.Walks.{from-first, test-ends, test-full, test-fails, test-more}
+use Rattle.layout.proofs.Checks.{runs-past, by-headers}
+use borrow.Author.Tests.{not-true, not-false}
+use mathlib.Core.Bool.{true, false}
+use mathlib.Core.List.{List}
+use mathlib.Core.Option.{Option}
+use Prim.Native.Nat.{ℕ, _-_, _≤_}
+use Rattle.words.specs.Lists.{all}
+use Rattle.model.specs.Capabilities.{pointer, walk, capabilities, broken, listed}
+use Rattle.layout.specs.Checks.{apart}
+use borrow.Author.Needs.{needs}
+use Rattle.layout.proofs.structure.misplaced.Statement.{statement}
+use Rattle.layout.proofs.structure.misplaced.Tie as tie
+
+abbrev Inv-loop : tie.InvT-loop
+Inv-loop c a n p₀ k₀ p k =
+    (k ≤ 48) × (broken (walk c (48 - k) p) ≡ false)
+    × (all (apart a n) (listed (walk c (48 - k) p)) ≡ all (apart a n) (listed (capabilities c)))
+
+abbrev μ-loop : tie.MeasureT-loop
+μ-loop c a n p₀ k₀ p k = 48 - k
+
+add-if1 : tie.Need-add-if1 Inv-loop μ-loop
+add-if1 c = search needs
+
+returns : tie.Need-returns Inv-loop μ-loop
+returns c =
+    let s = c .before .args in
+    runs-past (listed (capabilities (now (s .c)))) (s .a) (s .n) (c .if1 .taken)
+
+first-pointer-requires : tie.Need-first-pointer-requires Inv-loop μ-loop
+first-pointer-requires c κs = search needs
+
+loop-holds : tie.Need-loop-holds Inv-loop μ-loop
+loop-holds c =
+    let s = c .before .before .args in
+    let f = now (s .c) in
+    let e : walk f 48 (c .first-pointer .result) ≡ capabilities f = ap (walk f 48) (c .first-pointer .ensures) ∙ from-first f in
+    (omega arith, ap broken e ∙ c .before .before .pre .0, ap (λ (w : Option (List ℕ)). all (apart (s .a) (s .n)) (listed w)) e)
+
+place-requires : tie.Need-place-requires Inv-loop μ-loop
+place-requires c κs = search needs
+
+returns-2 : tie.Need-returns-2 Inv-loop μ-loop
+returns-2 c =
+    let s = c .before .before .before .before .before .before .args in
+    let v = c .before .before .before .loop in
+    by-headers (listed (capabilities (now (s .c)))) (s .a) (s .n) true (c .before .before .before .before .before .if1 .left)
+    (test-ends (now (s .c)) (apart (s .a) (s .n)) (v .k) (v .p) (c .before .place .result) _ (c .before .place .ensures .0) (v .inv .1) (v .inv .2)
+    (c .if2 .taken))
+
+apart-requires : tie.Need-apart-requires Inv-loop μ-loop
+apart-requires c κs = search needs
+
+returns-3 : tie.Need-returns-3 Inv-loop μ-loop
+returns-3 c =
+    let s = c .before .before .before .before .before .before .before .before .args in
+    let v = c .before .before .before .before .before .loop in
+    by-headers (listed (capabilities (now (s .c)))) (s .a) (s .n) false (c .before .before .before .before .before .before .before .if1 .left)
+    (test-fails (now (s .c)) (apart (s .a) (s .n)) (v .k) (v .p) (c .before .before .before .place .result) _ (c .before .before .before .place .ensures .0) (v .inv .1) (v .inv .2)
+    (c .before .before .before .before .loop-test .taken) (c .before .before .if2 .left)
+    (sym (c .before .apart .ensures) ∙ not-true _ (c .if3 .taken)))
+
+add-p : tie.Need-add-p Inv-loop μ-loop
+add-p c = search needs
+
+element-copy-out-p : tie.Need-element-copy-out-p Inv-loop μ-loop
+element-copy-out-p c = search needs
+
+add-k : tie.Need-add-k Inv-loop μ-loop
+add-k c = search needs
+
+loop-less : tie.Need-loop-less Inv-loop μ-loop
+loop-less c = search needs
+
+loop-again : tie.Need-loop-again Inv-loop μ-loop
+loop-again c =
+    let s = c .before .before .before .before .before .before .before .before .before .args in
+    let v = c .before .before .before .before .before .before .loop in
+    let q =
+    test-more (now (s .c)) (apart (s .a) (s .n)) (v .k) (v .p) (c .before .before .before .before .place .result) _ (c .before .before .before .before .place .ensures .0) (v .inv .1) (v .inv .2)
+    (c .before .before .before .before .before .loop-test .taken) (c .before .before .before .if2 .left)
+    (sym (c .before .before .apart .ensures) ∙ not-false _ (c .before .if3 .left)) in
+    (omega arith, q .0, q .1)
+
+returns-4 : tie.Need-returns-4 Inv-loop μ-loop
+returns-4 c =
+    let s = c .before .before .before .before .args in
+    let v = c .before .loop in
+    by-headers (listed (capabilities (now (s .c)))) (s .a) (s .n) true (c .before .before .before .if1 .left)
+    (test-full (now (s .c)) (apart (s .a) (s .n)) (v .k) (v .p) (pointer (v .p)) _ refl (v .inv .1) (v .inv .2) (omega arith))
+
+pub misplaced-spec : {M : Type 1} → statement M
+misplaced-spec =
+    tie.close
+    (tie.spec
+    Inv-loop
+    μ-loop
+    add-if1
+    returns
+    first-pointer-requires
+    loop-holds
+    place-requires
+    returns-2
+    apart-requires
+    returns-3
+    add-p
+    element-copy-out-p
+    add-k
+    loop-less
+    loop-again
+    returns-4)
