@@ -1,6 +1,6 @@
 // The capability list.
 ghost use mathlib.Core.Path.{_≡_};
-ghost use mathlib.Core.Bool.{false, cond};
+ghost use mathlib.Core.Bool.{cond};
 ghost use Prim.Native.Nat.{_+_, _≤_, _<_};
 ghost use Rattle.model.specs.Capabilities.{pointer};
 ghost use Rattle.layout.specs.Places.{brokenListing, oneMore, firstPointer, listingOf};

@@ -1,6 +1,6 @@
 // The four forms of the MSI capability.
 ghost use mathlib.Core.Path.{_≡_};
-ghost use Rattle.model.specs.Shape.{forms, formOf};
+ghost use Rattle.model.specs.Shape.{formOf};
 use model::Form;
 use model::Shape;
 

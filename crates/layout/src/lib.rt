@@ -1,4 +1,4 @@
-// One function of the card, without the wire.
+// What the configuration says: capability list, shape, and the checks of a start.
 pub mod capability;
 pub mod form;
 pub mod shape;

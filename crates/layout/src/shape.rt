@@ -1,6 +1,6 @@
 // What the configuration, 256 bytes, says of MSI and MSI-X.
 ghost use mathlib.Core.Path.{_≡_};
-ghost use Prim.Native.Nat.{_+_, _%_, _≤_, _<_};
+ghost use Prim.Native.Nat.{_%_, _≤_, _<_};
 ghost use lib.ListN.{length};
 ghost use Rattle.words.specs.Bytes.{word32};
 ghost use Rattle.model.specs.Shape.{msiAt, msixAt, regionAt, shapeOf};

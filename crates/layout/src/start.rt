@@ -1,10 +1,8 @@
 // The checks of a start, in document 01's order.
 ghost use mathlib.Core.Path.{_≡_};
-ghost use mathlib.Core.Bool.{false};
 ghost use Prim.Native.Nat.{_+_, _^_, _≤_, _<_};
-ghost use Rattle.model.specs.Capabilities.{capabilities, listed};
 ghost use Rattle.model.specs.Shape.{shapeOf, tableBytes, pendingBytes};
-ghost use Rattle.model.specs.Start.{given, badHeader, twice, outside, badRegions, badEvents, badBuffers, startRefusal};
+ghost use Rattle.model.specs.Start.{given, badHeader, outside, badRegions, badEvents, badBuffers, startRefusal};
 ghost use Rattle.layout.specs.Places.{listingOf};
 ghost use Rattle.layout.specs.Shapes.{Bounded};
 ghost use Rattle.layout.specs.Checks.{listedTwice};

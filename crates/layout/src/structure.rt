@@ -1,11 +1,9 @@
 // Where the MSI and MSI-X structures stand in the configuration.
 ghost use mathlib.Core.Path.{_≡_};
-ghost use mathlib.Core.Bool.{false, not, _&&_, _||_};
-ghost use Prim.Native.Nat.{_+_, _^_, _≤_, _<_};
-ghost use lib.Dec.{ltb, eqb};
+ghost use mathlib.Core.Bool.{false};
+ghost use Prim.Native.Nat.{_+_, _^_, _<_};
 ghost use Rattle.words.specs.Lists.{overlap};
 ghost use Rattle.model.specs.Capabilities.{capabilities, listed, broken};
-ghost use Rattle.model.specs.Shape.{formOf, msiPresent, msixPresent};
 ghost use Rattle.model.specs.Start.{misplaced, badStructures};
 ghost use Rattle.layout.specs.Checks.{apart, badMsi, badMsix, badPair};
 ghost use Rattle.layout.specs.Shapes.{Bounded};
