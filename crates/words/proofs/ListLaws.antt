@@ -261,3 +261,9 @@ single f v i (suc n) h a b =
 
 pub keep-here : (f : ℕ → Bool) (v n : ℕ) → ((x : ℕ) → (x ≡ v → ⊥) → x < n → f x ≡ false) → v < n → keep f (count 0 n) ≡ cond (f v) (v ∷ []) []
 keep-here f v n h l = single f v 0 n (λ x m j. h x m (omega arith)) (omega arith) (omega arith)
+
+-- the same parts
+pub join-same : (f g : ℕ → List ℕ) (l : List ℕ) → ((x : ℕ) → f x ≡ g x) → join f l ≡ join g l
+unfolding join
+join-same f g [] h = refl
+join-same f g (x ∷ l) h = ap₂ _++_ (h x) (join-same f g l h)

@@ -1,0 +1,2 @@
+// One function of the card, without the wire.
+pub mod sweep;

@@ -1,0 +1,55 @@
+// The open waiting vectors: the bytes that they send, and the sending.
+ghost use mathlib.Core.Path.{_≡_};
+ghost use mathlib.Core.List.{List};
+ghost use mathlib.Core.Bool.{true};
+ghost use Prim.Native.Nat.{ℕ, _≤_, _<_, _^_};
+ghost use lib.ListN.{length};
+ghost use Rattle.words.specs.Bits.{bit};
+ghost use Rattle.words.specs.Writers.{Wrote};
+ghost use Rattle.model.specs.World.{endpointOf};
+ghost use Rattle.model.specs.Vectors.{owed};
+ghost use Rattle.model.specs.Release.{sweepBytes, swept};
+ghost use Rattle.model.specs.Ready.{Ready};
+ghost use Rattle.vectors.specs.Given.{FitShape};
+ghost use Rattle.release.specs.Owed.{setBits, Lent};
+ghost use Rattle.endpoint.specs.Sweeps.{bytesFor, sweptFor, Swept};
+use model::Function;
+use model::Mode;
+use model::Shape;
+
+// MSI's waiting bits after the sending, and how many bytes were sent.
+pub struct Sent {
+    pub waiting: u32,
+    pub count: usize,
+}
+
+// The open waiting vectors of MSI, a bit for each.
+fn msi_owed(f: Function, s: Shape) -> u32
+    requires { ⌜ FitShape s ⌝ }
+    ensures { λ r. ⌜ ((t p : List ℕ) → owed Mode.Msi s (endpointOf f t p) ≡ setBits 32 r) ⌝ }
+{
+    let config = f.config;
+    let open = vectors::msi::msi_open(&config, s);
+    open & f.waiting
+}
+
+fn msi_size(f: Function, s: Shape) -> usize
+    requires { ⌜ FitShape s ⌝ }
+    ensures { λ r. ⌜ ((t p : List ℕ) → r ≡ length (bytesFor Mode.Msi s (endpointOf f t p))) ⌝ }
+{
+    let config = f.config;
+    let owed = msi_owed(f, s);
+    let base = vectors::message::msi_base(&config, s);
+    release::msi::msi_size(owed, base.upper)
+}
+
+fn msix_size(f: Function, s: Shape, table: &[u8], pending: &[u8]) -> usize
+    requires { ⌜ FitShape s × Lent (now table) (now pending) ⌝ }
+    ensures { λ r. ⌜ r ≡ length (bytesFor Mode.Msix s (endpointOf f (now (table .entry)) (now (pending .entry)))) ⌝ }
+{
+    let config = f.config;
+    if vectors::msix::msix_enabled(&config, s) {
+        return release::msix::msix_size(table, pending);
+    }
+    0
+}
