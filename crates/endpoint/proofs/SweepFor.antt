@@ -84,13 +84,15 @@ module _ (s : Shape) (u : Endpoint) (on : msixEnabled s (registers u) ≡ true) 
   unfolding tableBytes
   count-entries = let e : length (u .table) ≡ 16 * s .msix .vectors = fit in omega arith
 
+  open-here : (v : ℕ) → v < s .msix .vectors → isOpen Msix s (registers u) v ≡ not (maskedAt (u .table) v)
+  unfolding masked maskedAt
+  open-here v h = open-msix s (registers u) v ∙ rw (on, lt-ltb v (s .msix .vectors) h)
+
   owed-here : owed Msix s u ≡ owedEntries (u .table) (u .pending) (entries (u .table))
-  unfolding owed owedEntries vectorCount owes waits waitsAt masked maskedAt
+  unfolding owed owedEntries vectorCount owes waits waitsAt
   owed-here =
       keep-same (λ v. isOpen Msix s (registers u) v && waits Msix u v) (owes (u .table) (u .pending)) (count 0 (s .msix .vectors))
-      (λ v m.
-      let p = member-count 0 (s .msix .vectors) v m in
-      ap (λ (b : Bool). b && waits Msix u v) (open-msix s (registers u) v ∙ rw (on, lt-ltb v (s .msix .vectors) (omega arith))))
+      (λ v m. ap (λ (b : Bool). b && waits Msix u v) (open-here v (let p = member-count 0 (s .msix .vectors) v m in omega arith)))
       ∙ ap (λ (n : ℕ). keep (owes (u .table) (u .pending)) (count 0 n)) (sym count-entries)
 
   pub msix-bytes : bytesFor Msix s u ≡ entryPackets (u .function .requester) (u .table) (owedEntries (u .table) (u .pending) (entries (u .table)))

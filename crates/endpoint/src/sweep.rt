@@ -6,6 +6,7 @@ ghost use Prim.Native.Nat.{ℕ, _≤_, _<_, _^_};
 ghost use lib.ListN.{length};
 ghost use Rattle.words.specs.Bits.{bit};
 ghost use Rattle.words.specs.Writers.{Wrote};
+ghost use Rattle.model.specs.Shape.{tableBytes};
 ghost use Rattle.model.specs.World.{endpointOf};
 ghost use Rattle.model.specs.Vectors.{owed};
 ghost use Rattle.model.specs.Release.{sweepBytes, swept};
@@ -44,7 +45,7 @@ fn msi_size(f: Function, s: Shape) -> usize
 }
 
 fn msix_size(f: Function, s: Shape, table: &[u8], pending: &[u8]) -> usize
-    requires { ⌜ FitShape s × Lent (now table) (now pending) ⌝ }
+    requires { ⌜ FitShape s × Lent (now table) (now pending) × (length (now table) ≡ tableBytes s) ⌝ }
     ensures { λ r. ⌜ r ≡ length (bytesFor Mode.Msix s (endpointOf f (now (table .entry)) (now (pending .entry)))) ⌝ }
 {
     let config = f.config;
