@@ -1,1 +1,2 @@
 pub mod SweepFor
+pub mod ReadyFit

@@ -19,8 +19,10 @@ use Rattle.model.specs.declared.Mode.the-variants.{Pin, Msi, Msix}
 use Rattle.model.specs.declared.Shape.{Shape}
 use Rattle.model.specs.Shape.{tableBytes, pendingBytes}
 use Rattle.model.specs.World.{Endpoint, Registers, registers, withWaiting, endpointOf}
-use Rattle.model.specs.Vectors.{owed, isOpen, waits, masked, vectorCount, modeOf}
-use Rattle.model.specs.Packets.{message, messageOf}
+use Rattle.model.specs.Vectors.{owed, isOpen, waits, masked, vectorCount, modeOf, inForce, msixControlBit, msiControlBit, enabled, granted, enableField, commandBit}
+use Rattle.model.specs.declared.Function.{Function}
+use Rattle.endpoint.specs.declared.sweep.Sent.{Sent}
+use Rattle.model.specs.Packets.{message, messageOf, msiUpper, msiAddress, msiData}
 use Rattle.model.specs.Release.{owedNow, swept, sweepBytes, clearAll}
 use Rattle.model.specs.Fit.{Fit}
 use Rattle.model.specs.Ready.{Below, Ready}
@@ -32,7 +34,6 @@ use Rattle.vectors.proofs.MessageLaws.{base-message}
 use Rattle.vectors.proofs.MsixLaws.{open-msix}
 use Rattle.vectors.proofs.OpenLaws.{owed-msi, owed-shut}
 use Rattle.release.specs.Owed.{setBits, msiPackets, entries, maskedAt, waitsAt, owes, owedEntries, entryMessage, entryPackets, clearPending, Lent, Released}
-
 use Rattle.release.proofs.Clearing.{clear-msix, clear-msi, clear-part, clear-nothing}
 use Rattle.endpoint.specs.Sweeps.{bytesFor, sweptFor, Swept}
 
@@ -102,3 +103,47 @@ module _ (s : Shape) (u : Endpoint) (on : msixEnabled s (registers u) ≡ true) 
   pub msix-swept : sweptFor Msix s u ≡ withWaiting u (u .function .waiting) (clearPending (u .pending) (owedEntries (u .table) (u .pending) (entries (u .table))))
   unfolding sweptFor
   msix-swept = ap (clearAll Msix u) owed-here ∙ clear-msix u (owedEntries (u .table) (u .pending) (entries (u .table)))
+
+-- ---- what the senders promise
+
+pub msi-sent : (s : Shape) (u : Endpoint) (w n waiting : ℕ) (b : Message) (o o′ : List ℕ) → owed Msi s u ≡ setBits 32 w → b ≡ msiBase s (registers u) → w < 2 ^ 32
+    → waiting ≡ clear w (u .function .waiting) → Wrote (msiPackets (u .function .requester) (b .upper) (b .address) (b .value) w) o n o′
+    → Swept (bytesFor Msi s u) u (sweptFor Msi s u) o (record { waiting = waiting; count = n }) (u .pending) o′
+msi-sent s u w n waiting b o o′ e q h k r = record {
+  sent = rw (msi-bytes s u w b e q) r;
+  left = ap (λ (x : ℕ). withWaiting u x (u .pending)) k ∙ sym (msi-swept s u w e h);
+}
+
+pub msix-sent : (s : Shape) (u : Endpoint) (n : ℕ) (o p′ o′ : List ℕ) → msixEnabled s (registers u) ≡ true → length (u .table) ≡ tableBytes s
+    → Released (u .function .requester) (u .table) (owedEntries (u .table) (u .pending) (entries (u .table))) (u .pending) o n p′ o′
+    → Swept (bytesFor Msix s u) u (sweptFor Msix s u) o (record { waiting = u .function .waiting; count = n }) p′ o′
+msix-sent s u n o p′ o′ on fit r = record {
+  sent = rw (msix-bytes s u on fit) (r .sent);
+  left = ap (withWaiting u (u .function .waiting)) (r .cleared) ∙ sym (msix-swept s u on fit);
+}
+
+-- nothing sent, nothing cleared
+pub none-sent : (bytes : List ℕ) (u u′ : Endpoint) (o : List ℕ) → [] ≡ bytes → u ≡ u′ → Swept bytes u u′ o (record { waiting = u .function .waiting; count = 0 }) (u .pending) o
+none-sent bytes u u′ o e q = record { sent = rw (← e) (record { count = refl; bytes = refl }); left = q }
+
+-- MSI's bytes do not depend on the buffers
+pub msi-anywhere : (s : Shape) (f : Function) (t p t′ p′ : List ℕ) → bytesFor Msi s (endpointOf f t p) ≡ bytesFor Msi s (endpointOf f t′ p′)
+unfolding bytesFor owed vectorCount isOpen inForce modeOf msixControlBit msiControlBit enabled granted enableField masked commandBit waits messageOf msiUpper msiAddress msiData
+msi-anywhere s f t p t′ p′ = refl
+
+pub msix-room : (s : Shape) (f : Function) (t p : List ℕ) (n : ℕ) → msixEnabled s (regs (f .config) t) ≡ true → length t ≡ tableBytes s
+    → length (bytesFor Msix s (endpointOf f t p)) ≤ n → length (entryPackets (f .requester) t (owedEntries t p (entries t))) ≤ n
+msix-room s f t p n on fit h = rw (msix-bytes s (endpointOf f t p) on fit) at h
+
+-- ---- from a mechanism to the one in force
+
+pub mode-room : (m : Mode) (s : Shape) (u : Endpoint) (n : ℕ) → modeOf s (registers u) ≡ m → length (sweepBytes s u) ≤ n → length (bytesFor m s u) ≤ n
+mode-room m s u n e h = rw (bytes-mode m s u e) h
+
+pub msi-room : (s : Shape) (f : Function) (t p t′ p′ : List ℕ) (n : ℕ) → modeOf s (regs (f .config) t) ≡ Msi → length (sweepBytes s (endpointOf f t p)) ≤ n
+    → length (bytesFor Msi s (endpointOf f t′ p′)) ≤ n
+msi-room s f t p t′ p′ n e h = rw (msi-anywhere s f t′ p′ t p) (mode-room Msi s (endpointOf f t p) n e h)
+
+pub swept-by : (m : Mode) (s : Shape) (u : Endpoint) (o : List ℕ) (r : Sent) (p′ o′ : List ℕ) → modeOf s (registers u) ≡ m
+    → Swept (bytesFor m s u) u (sweptFor m s u) o r p′ o′ → Swept (sweepBytes s u) u (swept s u) o r p′ o′
+swept-by m s u o r p′ o′ e w = rw (← bytes-mode m s u e, ← swept-mode m s u e) w

@@ -54,3 +54,66 @@ fn msix_size(f: Function, s: Shape, table: &[u8], pending: &[u8]) -> usize
     }
     0
 }
+
+// The bytes that the open waiting vectors send.
+pub fn owed_size(f: Function, s: Shape, table: &[u8], pending: &[u8]) -> usize
+    requires { ⌜ Ready s (endpointOf f (now table) (now pending)) ⌝ }
+    ensures { λ r. ⌜ r ≡ length (sweepBytes s (endpointOf f (now (table .entry)) (now (pending .entry)))) ⌝ }
+{
+    let config = f.config;
+    let mode = vectors::mode::mode(&config, s);
+    match mode {
+        Mode::Pin => 0,
+        Mode::Msi => msi_size(f, s),
+        Mode::Msix => msix_size(f, s, table, pending),
+    }
+}
+
+fn msi_send(f: Function, s: Shape, out: &mut [u8]) -> Sent
+    requires { ⌜ FitShape s × ((t p : List ℕ) → length (bytesFor Mode.Msi s (endpointOf f t p)) ≤ length (now out)) ⌝ }
+    ensures { λ r. ⌜ ((t p : List ℕ) → Swept (bytesFor Mode.Msi s (endpointOf f t p)) (endpointOf f t p) (sweptFor Mode.Msi s (endpointOf f t p)) (now (out .entry)) r p (now (out .exit))) ⌝ }
+{
+    let config = f.config;
+    let owed = msi_owed(f, s);
+    let base = vectors::message::msi_base(&config, s);
+    let n = release::msi::msi_send(out, f.requester, base.upper, base.address, base.value, owed);
+    Sent {
+        waiting: !owed & f.waiting,
+        count: n,
+    }
+}
+
+fn msix_send(f: Function, s: Shape, table: &[u8], pending: &mut [u8], out: &mut [u8]) -> Sent
+    requires { ⌜ FitShape s × Lent (now table) (now pending) × (length (now table) ≡ tableBytes s) × (length (bytesFor Mode.Msix s (endpointOf f (now table) (now pending))) ≤ length (now out)) ⌝ }
+    ensures { λ r. ⌜ Swept (bytesFor Mode.Msix s (endpointOf f (now (table .entry)) (now (pending .entry)))) (endpointOf f (now (table .entry)) (now (pending .entry))) (sweptFor Mode.Msix s (endpointOf f (now (table .entry)) (now (pending .entry)))) (now (out .entry)) r (now (pending .exit)) (now (out .exit)) ⌝ }
+{
+    let config = f.config;
+    if vectors::msix::msix_enabled(&config, s) {
+        let n = release::msix::msix_send(out, table, pending, f.requester);
+        return Sent {
+            waiting: f.waiting,
+            count: n,
+        };
+    }
+    Sent {
+        waiting: f.waiting,
+        count: 0,
+    }
+}
+
+// Sends the open waiting vectors, the lowest first, and clears their bits.
+pub fn send_owed(f: Function, s: Shape, table: &[u8], pending: &mut [u8], out: &mut [u8]) -> Sent
+    requires { ⌜ Ready s (endpointOf f (now table) (now pending)) × (length (sweepBytes s (endpointOf f (now table) (now pending))) ≤ length (now out)) ⌝ }
+    ensures { λ r. ⌜ Swept (sweepBytes s (endpointOf f (now (table .entry)) (now (pending .entry)))) (endpointOf f (now (table .entry)) (now (pending .entry))) (swept s (endpointOf f (now (table .entry)) (now (pending .entry)))) (now (out .entry)) r (now (pending .exit)) (now (out .exit)) ⌝ }
+{
+    let config = f.config;
+    let mode = vectors::mode::mode(&config, s);
+    match mode {
+        Mode::Pin => Sent {
+            waiting: f.waiting,
+            count: 0,
+        },
+        Mode::Msi => msi_send(f, s, out),
+        Mode::Msix => msix_send(f, s, table, pending, out),
+    }
+}
