@@ -1,0 +1,2 @@
+// The registers of one function: configuration and MSI-X table.
+pub mod table;
