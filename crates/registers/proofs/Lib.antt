@@ -1,3 +1,4 @@
 pub mod WrittenLaws
 pub mod CleanLaws
 pub mod EntryLaws
+pub mod MaskLaws

@@ -1,2 +1,3 @@
 // The registers of one function: configuration and MSI-X table.
+pub mod masks;
 pub mod table;
