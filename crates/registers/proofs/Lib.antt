@@ -2,3 +2,4 @@ pub mod WrittenLaws
 pub mod CleanLaws
 pub mod EntryLaws
 pub mod MaskLaws
+pub mod ShownLaws

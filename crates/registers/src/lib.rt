@@ -1,3 +1,4 @@
 // The registers of one function: configuration and MSI-X table.
+pub mod config;
 pub mod masks;
 pub mod table;
