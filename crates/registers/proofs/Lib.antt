@@ -3,3 +3,4 @@ pub mod CleanLaws
 pub mod EntryLaws
 pub mod MaskLaws
 pub mod ShownLaws
+pub mod StoredLaws

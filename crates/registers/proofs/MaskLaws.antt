@@ -65,6 +65,20 @@ places s = go (s .msi .masks) (s .msi .wide)
     go true false = record { message = refl; mask = λ e. absurd (true≢false e); pending = λ e. absurd (true≢false e) }
     go true true = record { message = refl; mask = λ e. absurd (true≢false e); pending = λ e. absurd (true≢false e) }
 
+-- a form with masks ends with the Mask and the Pending register
+pub record Masked (f : Form) : Type 0 where
+  pub behind : 12 ≤ f .mask
+  pub next : f .pending ≡ f .mask + 4
+  pub last : f .size ≡ f .pending + 4
+
+pub masked : (s : Shape) → s .msi .masks ≡ true → Masked (formOf s)
+unfolding formOf forms
+masked s e = rw e (go (s .msi .wide))
+  where
+    go : (w : Bool) → Masked (forms true w)
+    go false = record { behind = omega arith; next = refl; last = refl }
+    go true = record { behind = omega arith; next = refl; last = refl }
+
 -- address, upper address and data have no gap between them
 data-run : (wide : Bool) (k : ℕ) → ((ltb k 8 || (wide && ltb k 12)) || within (cond wide 12 8) 2 k) ≡ ltb k (cond wide 12 8 + 2)
 data-run false k = ap (λ (b : Bool). b || within 8 2 k) (or-false (ltb k 8)) ∙ run-more 8 2 k

@@ -1,5 +1,5 @@
 -- What a read of the configuration shows. Assumes nothing.
-use mathlib.Core.Path.{_≡_, refl, sym, ap, ap₂, _∙_}
+use mathlib.Core.Path.{_≡_, sym, ap, ap₂, _∙_}
 use mathlib.Core.Bool.{Bool, true, false, cond, _&&_, and-false}
 use mathlib.Core.List.{List, [], _++_}
 use Prim.Native.Nat.{ℕ, _+_, _-_, _*_, _/_, _%_, _≤_, _<_}
@@ -24,9 +24,10 @@ use Rattle.model.specs.declared.Form.{Form}
 use Rattle.model.specs.declared.Function.{Function}
 use Rattle.model.specs.declared.Shape.{Shape}
 use Rattle.model.specs.World.{Endpoint, endpointOf}
-use Rattle.model.specs.Shape.{formOf, forms}
+use Rattle.model.specs.Shape.{formOf}
 use Rattle.model.specs.Registers.{inMsi, inPendingRegister, shown, storedZero, headerZero}
 use Rattle.endpoint.proofs.Checks.{msi-absent, msi-there}
+use Rattle.registers.proofs.MaskLaws.{masked}
 use Rattle.registers.specs.Shown.{pendingShown}
 
 -- what a read shows depends only on the function
@@ -70,15 +71,6 @@ placed-in n a xs p ys l e = rw (sym l) (placed xs a p ys (rw (sym l) at e))
 
 -- ---- the MSI Pending register
 
--- the forms with masks end with it
-last-register : (s : Shape) → s .msi .masks ≡ true → formOf s .size ≡ formOf s .pending + 4
-unfolding formOf forms
-last-register s e = rw e (go (s .msi .wide))
-  where
-    go : (w : Bool) → forms true w .size ≡ forms true w .pending + 4
-    go false = refl
-    go true = refl
-
 module _ (s : Shape) (waiting : ℕ) (c : List ℕ) (i : ℕ) where
   pub shown-unmasked : s .msi .masks ≡ false → byte c i ≡ pendingShown s waiting c i
   unfolding pendingShown inPendingRegister
@@ -90,12 +82,12 @@ module _ (s : Shape) (waiting : ℕ) (c : List ℕ) (i : ℕ) where
 
 module _ (s : Shape) (f : Form) (e : f ≡ formOf s) (m : s .msi .masks ≡ true) (p : s .msi .at ≡ 0 → ⊥) where
   pub pending-fits : f .pending + 4 ≡ formOf s .size
-  pending-fits = rw e (sym (last-register s m))
+  pending-fits = rw e (sym (masked s m .last))
 
   in-register : (i : ℕ) → (inMsi s i && inPendingRegister s (i - s .msi .at)) ≡ within (s .msi .at + f .pending) 4 i
   unfolding inMsi inPendingRegister
   in-register i =
-      let n : formOf s .size ≡ formOf s .pending + 4 = last-register s m in
+      let n : formOf s .size ≡ formOf s .pending + 4 = masked s m .last in
       let q : formOf s .pending ≡ f .pending = ap (λ (g : Form). g .pending) (sym e) in
       let a : Bool = within (s .msi .at) (formOf s .size) i in
       let b : Bool = within (formOf s .pending) 4 (i - s .msi .at) in
