@@ -4,3 +4,5 @@ pub mod EntryLaws
 pub mod MaskLaws
 pub mod ShownLaws
 pub mod StoredLaws
+pub mod BarLaws
+pub mod AccessLaws

@@ -1,4 +1,5 @@
 // The registers of one function: configuration and MSI-X table.
+pub mod bar;
 pub mod clean;
 pub mod config;
 pub mod masks;
