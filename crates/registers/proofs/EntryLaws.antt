@@ -1,0 +1,107 @@
+-- The entries of the MSI-X table, one behind another. Assumes nothing.
+use mathlib.Core.Path.{_≡_, sym, ap, ap₂, _∙_}
+use mathlib.Core.Bool.{Bool, true, false, cond, _&&_, and-true, and-false}
+use mathlib.Core.List.{List}
+use Prim.Native.Nat.{ℕ, _+_, _*_, _%_, _<_}
+use native.Mathlib.Omega.{arith}
+use lib.Bits.{bitAnd, bitOr, and-comm}
+use lib.Dec.{ltb, eqb}
+use lib.ListN.{length, set}
+use lib.Seq.{ext-getD, getD-set-same, getD-set-other}
+use borrow.Author.Tests.{eqb-true, eqb-false, lt-ltb, le-ltb, ltb-true, ltb-false}
+use Rattle.words.specs.Lists.{all, count, firstOf}
+use Rattle.words.specs.Bytes.{byte, number, word64}
+use Rattle.words.proofs.BoolLaws.{by-test}
+use Rattle.words.proofs.ByteLaws.{number-shift}
+use Rattle.model.specs.Registers.{entryZero, startedTable}
+use Rattle.model.proofs.TableLaws.{length-table, byte-table}
+use Rattle.registers.proofs.CleanLaws.{or-none, all-count, clean, clean-word}
+
+-- ---- the bits that read 0, eight bytes at once
+
+entry-again : (i j : ℕ) → i % 16 ≡ j % 16 → entryZero i ≡ entryZero j
+unfolding entryZero
+entry-again i j e = rw e
+
+zero-byte : (i : ℕ) → entryZero i < 256
+unfolding entryZero firstOf
+zero-byte i = go (eqb (i % 16) 0) (ltb (i % 16) 12) (eqb (i % 16) 12)
+  where
+    go : (a b c : Bool) → cond a 0x03 (cond b 0x00 (cond c 0xfe (cond true 0xff 0))) < 256
+    go true b c = omega arith
+    go false true c = omega arith
+    go false false true = omega arith
+    go false false false = omega arith
+
+first-mask : (k : ℕ) → number entryZero (16 * k) 8 ≡ 0x0000000000000003
+unfolding number entryZero firstOf
+first-mask k = number-shift entryZero entryZero (16 * k) 0 8 (λ j h. entry-again (16 * k + j) (0 + j) (omega arith))
+
+second-mask : (k : ℕ) → number entryZero (16 * k + 8) 8 ≡ 0xfffffffe00000000
+unfolding number entryZero firstOf
+second-mask k = number-shift entryZero entryZero (16 * k + 8) 8 8 (λ j h. entry-again (16 * k + 8 + j) (8 + j) (omega arith))
+
+module _ (t : List ℕ) (b : (i : ℕ) → byte t i < 256) where
+  word-clean : (i m w : ℕ) → number entryZero i 8 ≡ m → w ≡ word64 t i → eqb (bitAnd w m) 0 ≡ all (clean entryZero t) (count i 8)
+  unfolding word64
+  word-clean i m w e f =
+      ap (λ (x : ℕ). eqb x 0) (and-comm w m ∙ ap₂ bitAnd (sym e) f) ∙ clean-word entryZero t zero-byte b i 8
+
+  -- one entry more
+  pub entry-clean : (k seen low high : ℕ) → low ≡ word64 t (16 * k) → high ≡ word64 t (16 * k + 8)
+      → eqb seen 0 ≡ all (clean entryZero t) (count 0 (16 * k))
+      → eqb (bitOr (bitOr seen (bitAnd low 0x0000000000000003)) (bitAnd high 0xfffffffe00000000)) 0 ≡ all (clean entryZero t) (count 0 (16 * (k + 1)))
+  entry-clean k seen low high e f g =
+      let test : ℕ → Bool = clean entryZero t in
+      let s : 16 * (k + 1) ≡ 16 * k + 8 + 8 = omega arith in
+      or-none (bitOr seen (bitAnd low 0x0000000000000003)) (bitAnd high 0xfffffffe00000000)
+      ∙ ap₂ _&&_
+      (or-none seen (bitAnd low 0x0000000000000003)
+      ∙ ap₂ _&&_ g (word-clean (16 * k) 0x0000000000000003 low (first-mask k) e)
+      ∙ sym (all-count test (16 * k) 8))
+      (word-clean (16 * k + 8) 0xfffffffe00000000 high (second-mask k) f)
+      ∙ sym (ap (λ (n : ℕ). all test (count 0 n)) s ∙ all-count test (16 * k + 8) 8)
+
+-- ---- the table of a start
+
+-- byte i where the first k entries have their mask bits set, and all else is 0
+unfoldable pub started : ℕ → ℕ → ℕ
+started k i = cond (eqb (i % 16) 12 && ltb i (16 * k)) 1 0
+
+-- before the first
+pub started-none : (i : ℕ) → 0 ≡ started 0 i
+unfolding started
+started-none i = rw (le-ltb i 0 (omega arith), and-false)
+
+-- a place but the next entry's mask byte
+mask-set : (i k : ℕ) → (i ≡ 16 * k + 12 → ⊥) → (eqb (i % 16) 12 && ltb i (16 * k)) ≡ (eqb (i % 16) 12 && ltb i (16 * (k + 1)))
+mask-set i k ne = by-test (eqb (i % 16) 12) mask (λ e. rw e)
+  where
+    mask : eqb (i % 16) 12 ≡ true → (eqb (i % 16) 12 && ltb i (16 * k)) ≡ (eqb (i % 16) 12 && ltb i (16 * (k + 1)))
+    mask e =
+        let p : i % 16 ≡ 12 = eqb-true (i % 16) 12 e in
+        rw e (by-test (ltb i (16 * k))
+        (λ d. d ∙ sym (lt-ltb i (16 * (k + 1)) (omega (arith, ltb-true i (16 * k) d))))
+        (λ d. d ∙ sym (le-ltb i (16 * (k + 1)) (omega (arith, ltb-false i (16 * k) d, ne)))))
+
+-- one entry more
+pub started-more : (t : List ℕ) (k : ℕ) → 16 * k + 12 < length t → ((i : ℕ) → i < length t → byte t i ≡ started k i)
+    → (i : ℕ) → i < length t → byte (set t (16 * k + 12) 1) i ≡ started (k + 1) i
+unfolding started
+started-more t k h f i l = by-test (eqb i (16 * k + 12)) here there
+  where
+    here : eqb i (16 * k + 12) ≡ true → byte (set t (16 * k + 12) 1) i ≡ cond (eqb (i % 16) 12 && ltb i (16 * (k + 1))) 1 0
+    here e =
+        let p : i ≡ 16 * k + 12 = eqb-true i (16 * k + 12) e in
+        let q : (16 * k + 12) % 16 ≡ 12 = omega arith in
+        rw (p, getD-set-same t (16 * k + 12) 1 0 h, q, lt-ltb (16 * k + 12) (16 * (k + 1)) (omega arith))
+
+    there : eqb i (16 * k + 12) ≡ false → byte (set t (16 * k + 12) 1) i ≡ cond (eqb (i % 16) 12 && ltb i (16 * (k + 1))) 1 0
+    there e = getD-set-other t (16 * k + 12) i 1 0 (eqb-false i (16 * k + 12) e) ∙ f i l ∙ ap (λ (b : Bool). cond b 1 0) (mask-set i k (eqb-false i (16 * k + 12) e))
+
+-- after the last
+pub started-all : (t : List ℕ) (n : ℕ) → length t ≡ 16 * n → ((i : ℕ) → i < length t → byte t i ≡ started n i) → t ≡ startedTable n
+unfolding started
+started-all t n e f =
+    ext-getD 0 t (startedTable n) (e ∙ sym (length-table n))
+    (λ i h. f i h ∙ rw (lt-ltb i (16 * n) (omega arith), byte-table n i (omega arith), and-true))

@@ -1,0 +1,196 @@
+-- The masks of the configuration's bytes, as the code tests for them. Assumes nothing.
+use mathlib.Core.Path.{_≡_, refl, sym, ap, _∙_}
+use mathlib.Core.Bool.{Bool, true, false, not, cond, _&&_, _||_, or-false, true≢false}
+use Prim.Native.Nat.{ℕ, zero, suc, _+_, _-_, _*_, _/_, _%_, _^_, _≤_, _<_}
+use native.Mathlib.Nat.{div-one}
+use native.Mathlib.Omega.{arith}
+use lib.Dec.{ltb, eqb}
+use lib.Bits.{and-mask}
+use lib.Pow.{shr-shr}
+use borrow.Author.Tests.{ne-eqb, eqb-true, lt-ltb, le-ltb, le-leb, ltb-true, ltb-false, not-false}
+use Rattle.words.specs.Lists.{within, firstOf}
+use Rattle.words.specs.Bits.{clear}
+use Rattle.words.specs.Bytes.{byte, bytesOf}
+use Rattle.words.proofs.BoolLaws.{by-test}
+use Rattle.model.specs.declared.Form.{Form}
+use Rattle.model.specs.declared.Shape.{Shape}
+use Rattle.model.specs.Shape.{formOf, forms, msiPresent, msixPresent}
+use Rattle.model.specs.Registers.{headerWritable, headerZero, msiWritable, msiZero, msixWritable, maskBytes, inMask, inPendingRegister, inMsi, inMsix, writable, storedZero}
+use Rattle.layout.proofs.Checks.{size-small}
+
+-- byte k of a number
+pub byte-of : (n x k : ℕ) → k < n → byte (bytesOf n x) k ≡ x / 2 ^ (8 * k) % 256
+unfolding bytesOf
+byte-of zero x k h = absurd (omega arith)
+byte-of (suc n) x zero h = rw div-one
+byte-of (suc n) x (suc k) h =
+    let e : 8 + 8 * k ≡ 8 * suc k = omega arith in
+    byte-of n (x / 256) k (omega arith) ∙ ap (λ (y : ℕ). y % 256) (shr-shr x 8 (8 * k) ∙ ap (λ (j : ℕ). x / 2 ^ j) e)
+
+-- ---- runs of places
+
+not-below : (n k : ℕ) → n ≤ k → within 0 n k ≡ false
+unfolding within
+not-below n k h = let e : 0 + n ≡ n = omega arith in rw (le-leb 0 k (omega arith), e) (le-ltb k n h)
+
+-- what is absent stands at 0, and no place from n on is in its n bytes
+pub absent-apart : (present : Bool) (lo n k : ℕ) → (present ≡ false → lo ≡ 0) → n ≤ k → (present && within lo n k) ≡ within lo n k
+absent-apart true lo n k z h = refl
+absent-apart false lo n k z h = sym (ap (λ (i : ℕ). within i n k) (z refl) ∙ not-below n k h)
+
+-- the places below a, and n more
+run-more : (a n k : ℕ) → (ltb k a || within a n k) ≡ ltb k (a + n)
+unfolding within
+run-more a n k =
+    by-test (ltb k a) (λ e. rw e (sym (lt-ltb k (a + n) (omega (arith, ltb-true k a e)))))
+    (λ e. rw (e, le-leb a k (ltb-false k a e)))
+
+run-longer : (a b k : ℕ) → a ≤ b → (ltb k a || ltb k b) ≡ ltb k b
+run-longer a b k h = by-test (ltb k a) (λ e. rw e (sym (lt-ltb k b (omega (arith, ltb-true k a e))))) (λ e. rw e)
+
+-- ---- the four forms
+
+record Places (f : Form) (masks wide : Bool) : Type 0 where
+  message : f .message ≡ cond wide 12 8
+  mask : masks ≡ false → f .mask ≡ 0
+  pending : masks ≡ false → f .pending ≡ 0
+
+places : (s : Shape) → Places (formOf s) (s .msi .masks) (s .msi .wide)
+unfolding formOf forms
+places s = go (s .msi .masks) (s .msi .wide)
+  where
+    go : (masks wide : Bool) → Places (forms masks wide) masks wide
+    go false false = record { message = refl; mask = λ e. refl; pending = λ e. refl }
+    go false true = record { message = refl; mask = λ e. refl; pending = λ e. refl }
+    go true false = record { message = refl; mask = λ e. absurd (true≢false e); pending = λ e. absurd (true≢false e) }
+    go true true = record { message = refl; mask = λ e. absurd (true≢false e); pending = λ e. absurd (true≢false e) }
+
+-- a form with masks ends with the Mask and the Pending register
+pub record Masked (f : Form) : Type 0 where
+  pub behind : 12 ≤ f .mask
+  pub next : f .pending ≡ f .mask + 4
+  pub last : f .size ≡ f .pending + 4
+
+pub masked : (s : Shape) → s .msi .masks ≡ true → Masked (formOf s)
+unfolding formOf forms
+masked s e = rw e (go (s .msi .wide))
+  where
+    go : (w : Bool) → Masked (forms true w)
+    go false = record { behind = omega arith; next = refl; last = refl }
+    go true = record { behind = omega arith; next = refl; last = refl }
+
+-- address, upper address and data have no gap between them
+data-run : (wide : Bool) (k : ℕ) → ((ltb k 8 || (wide && ltb k 12)) || within (cond wide 12 8) 2 k) ≡ ltb k (cond wide 12 8 + 2)
+data-run false k = ap (λ (b : Bool). b || within 8 2 k) (or-false (ltb k 8)) ∙ run-more 8 2 k
+data-run true k = ap (λ (b : Bool). b || within 12 2 k) (run-longer 8 12 k (omega arith)) ∙ run-more 12 2 k
+
+-- three rows with the same number
+three-rows : (a b c : Bool) (x y : ℕ) → cond a x (cond b x (cond c x y)) ≡ cond ((a || b) || c) x y
+three-rows true b c x y = refl
+three-rows false true c x y = refl
+three-rows false false true x y = refl
+three-rows false false false x y = refl
+
+-- ---- byte k of the MSI capability
+
+module _ (s : Shape) (k : ℕ) where
+  pub in-mask : 4 ≤ k → inMask s k ≡ within (formOf s .mask) 4 k
+  unfolding inMask
+  in-mask h = absent-apart (s .msi .masks) (formOf s .mask) 4 k (places s .mask) h
+
+  pub in-pending : 4 ≤ k → inPendingRegister s k ≡ within (formOf s .pending) 4 k
+  unfolding inPendingRegister
+  in-pending h = absent-apart (s .msi .masks) (formOf s .pending) 4 k (places s .pending) h
+
+  pub control-writable : k < 4 → msiWritable s k ≡ cond (eqb k 2) 0x71 0
+  unfolding msiWritable firstOf
+  control-writable h = rw (lt-ltb k 4 h)
+
+  pub address-writable : k ≡ 4 → msiWritable s k ≡ 0xfc
+  unfolding msiWritable firstOf
+  address-writable e = rw e
+
+  pub rest-writable : 5 ≤ k → msiWritable s k ≡ cond (ltb k (formOf s .message + 2)) 0xff (cond (within (formOf s .mask) 4 k) (byte (maskBytes s) (k - formOf s .mask)) 0)
+  unfolding msiWritable firstOf
+  rest-writable h =
+      let m : ℕ = cond (within (formOf s .mask) 4 k) (byte (maskBytes s) (k - formOf s .mask)) 0 in
+      let e : ((ltb k 8 || (s .msi .wide && ltb k 12)) || within (formOf s .message) 2 k) ≡ ltb k (formOf s .message + 2) =
+      rw (places s .message) (data-run (s .msi .wide) k) in
+      rw (ne-eqb k 2 (omega arith), le-ltb k 4 (omega arith), ne-eqb k 4 (omega arith), in-mask (omega arith))
+      (three-rows (ltb k 8) (s .msi .wide && ltb k 12) (within (formOf s .message) 2 k) 0xff m ∙ ap (λ (b : Bool). cond b 0xff m) e)
+
+  pub low-zero : k < 8 → msiZero s k ≡ cond (eqb k 4) 0x03 0
+  unfolding msiZero firstOf
+  low-zero h = rw (lt-ltb k 8 h)
+
+  pub high-zero : 8 ≤ k → msiZero s k ≡ cond (within (formOf s .mask) 4 k) (clear (byte (maskBytes s) (k - formOf s .mask)) 0xff) (cond (within (formOf s .pending) 4 k) 0xff 0)
+  unfolding msiZero firstOf
+  high-zero h = rw (ne-eqb k 4 (omega arith), le-ltb k 8 h, in-mask (omega arith), in-pending (omega arith))
+
+-- ---- configuration byte i
+
+module _ (s : Shape) (i : ℕ) where
+  pub in-msi : 64 ≤ i → inMsi s i ≡ within (s .msi .at) (formOf s .size) i
+  unfolding inMsi msiPresent
+  in-msi h =
+      absent-apart (not (eqb (s .msi .at) 0)) (s .msi .at) (formOf s .size) i
+      (λ e. eqb-true (s .msi .at) 0 (not-false (eqb (s .msi .at) 0) e)) (omega (arith, size-small s))
+
+  pub in-msix : 64 ≤ i → inMsix s i ≡ within (s .msix .at) 12 i
+  unfolding inMsix msixPresent
+  in-msix h =
+      absent-apart (not (eqb (s .msix .at) 0)) (s .msix .at) 12 i
+      (λ e. eqb-true (s .msix .at) 0 (not-false (eqb (s .msix .at) 0) e)) (omega arith)
+
+  pub header-byte : i < 64 → (writable s i ≡ headerWritable i) × (storedZero s i ≡ cond (eqb i 6) 0x08 0)
+  unfolding writable storedZero headerZero
+  header-byte h = (rw (lt-ltb i 64 h), rw (lt-ltb i 64 h))
+
+  pub high-writable : 64 ≤ i → writable s i ≡
+      cond (within (s .msi .at) (formOf s .size) i) (msiWritable s (i - s .msi .at))
+      (cond (within (s .msix .at) 12 i) (cond (eqb (i - s .msix .at) 3) 0xc0 0) 0)
+  unfolding writable msixWritable
+  high-writable h = rw (le-ltb i 64 h, in-msi h, in-msix h)
+
+  pub high-stored : 64 ≤ i → storedZero s i ≡ cond (within (s .msi .at) (formOf s .size) i) (msiZero s (i - s .msi .at)) 0
+  unfolding storedZero
+  high-stored h = rw (le-ltb i 64 h, in-msi h)
+
+-- ---- the ways out of the code: f is the form
+
+module _ (s : Shape) (f : Form) (e : f ≡ formOf s) (k : ℕ) where
+  pub data-byte : 5 ≤ k → k - 2 < f .message → 0xff ≡ msiWritable s k
+  data-byte h j =
+      let l : ltb k (formOf s .message + 2) ≡ true = rw (sym e) (lt-ltb k (f .message + 2) (omega arith)) in
+      sym (rest-writable s k h ∙ rw l)
+
+  behind : 5 ≤ k → f .message ≤ k - 2 → msiWritable s k ≡ cond (within (f .mask) 4 k) (byte (maskBytes s) (k - f .mask)) 0
+  behind h j =
+      let l : ltb k (formOf s .message + 2) ≡ false = rw (sym e) (le-ltb k (f .message + 2) (omega arith)) in
+      rest-writable s k h ∙ rw (l, e)
+
+  pub mask-register : 5 ≤ k → f .message ≤ k - 2 → within (f .mask) 4 k ≡ true → byte (maskBytes s) (k - f .mask) ≡ msiWritable s k
+  mask-register h j w = sym (behind h j ∙ rw w)
+
+  pub not-writable : 5 ≤ k → f .message ≤ k - 2 → within (f .mask) 4 k ≡ false → 0 ≡ msiWritable s k
+  not-writable h j w = sym (behind h j ∙ rw w)
+
+  pub shut-mask : 8 ≤ k → within (f .mask) 4 k ≡ true → clear (byte (maskBytes s) (k - f .mask)) 0xff ≡ msiZero s k
+  shut-mask h w = let v : within (formOf s .mask) 4 k ≡ true = rw (sym e) w in sym (high-zero s k h ∙ rw (v, e))
+
+  pub pending-register : (b : Bool) → 8 ≤ k → within (f .mask) 4 k ≡ false → within (f .pending) 4 k ≡ b → cond b 0xff 0 ≡ msiZero s k
+  pending-register b h w p = sym (high-zero s k h ∙ rw (sym e, w, p))
+
+-- the bits that a byte does not have
+pub clear-ones : (m : ℕ) → m < 256 → 0xff - m ≡ clear m 0xff
+unfolding clear
+clear-ones m h = ap (λ (x : ℕ). 0xff - x) (sym (and-mask m 8 ∙ (let e : m % 256 ≡ m = omega arith in e)))
+
+-- from 40h on: n is MSI's length
+module _ (s : Shape) (i n : ℕ) (e : n ≡ formOf s .size) (h : 64 ≤ i) where
+  pub msi-byte : within (s .msi .at) n i ≡ true → (writable s i ≡ msiWritable s (i - s .msi .at)) × (storedZero s i ≡ msiZero s (i - s .msi .at))
+  msi-byte w = let v : within (s .msi .at) (formOf s .size) i ≡ true = rw (sym e) w in (high-writable s i h ∙ rw v, high-stored s i h ∙ rw v)
+
+  pub other-byte : within (s .msi .at) n i ≡ false
+      → (writable s i ≡ cond (within (s .msix .at) 12 i) (cond (eqb (i - s .msix .at) 3) 0xc0 0) 0) × (storedZero s i ≡ 0)
+  other-byte w = let v : within (s .msi .at) (formOf s .size) i ≡ false = rw (sym e) w in (high-writable s i h ∙ rw v, high-stored s i h ∙ rw v)

@@ -1,0 +1,81 @@
+-- The bytes of what is left of the value are still to be written. Assumes nothing.
+use mathlib.Core.Path.{_≡_, ap, _∙_}
+use Prim.Native.Nat.{ℕ, _+_, _-_, _%_, _≤_}
+use native.Mathlib.Nat.{sub-zero, add-zero}
+use native.Mathlib.Omega.{arith}
+use lib.ListN.{length, length-set}
+use Rattle.words.specs.Bits.{merge}
+use Rattle.words.specs.Bytes.{byte, bytesOf}
+use Rattle.model.specs.Registers.{written, writable}
+use Rattle.registers.proofs.WrittenLaws.{write-next, write-end}
+use borrow.Author.Needs.{needs}
+use Rattle.registers.proofs.config.config_written.Statement.{statement}
+use Rattle.registers.proofs.config.config_written.Tie as tie
+
+abbrev Inv-loop : tie.InvT-loop
+Inv-loop s at n value config₀ left₀ i₀ config left i =
+    (i ≤ n) × (length config ≡ 256) × (written (writable s) config (at + i) (bytesOf (n - i) left) ≡ written (writable s) config₀ at (bytesOf n value))
+
+abbrev μ-loop : tie.MeasureT-loop
+μ-loop s at n value config₀ left₀ i₀ config left i = n - i
+
+loop-holds : tie.Need-loop-holds Inv-loop μ-loop
+loop-holds c = (omega arith, search needs, rw (add-zero, sub-zero))
+
+add-k : tie.Need-add-k Inv-loop μ-loop
+add-k c = search needs
+
+writable-requires : tie.Need-writable-requires Inv-loop μ-loop
+writable-requires c κs = search needs
+
+array-read-merge : tie.Need-array-read-merge Inv-loop μ-loop
+array-read-merge c = search needs
+
+cast-merge : tie.Need-cast-merge Inv-loop μ-loop
+cast-merge c = search needs
+
+merge-requires : tie.Need-merge-requires Inv-loop μ-loop
+merge-requires c κs = search needs
+
+array-write-config : tie.Need-array-write-config Inv-loop μ-loop
+array-write-config c = search needs
+
+add-i : tie.Need-add-i Inv-loop μ-loop
+add-i c = search needs
+
+loop-less : tie.Need-loop-less Inv-loop μ-loop
+loop-less c = search needs
+
+loop-again : tie.Need-loop-again Inv-loop μ-loop
+loop-again c =
+    let v = c .before .before .before .loop in
+    let a = c .before .before .before .before .args in
+    let e = ap (λ (m : ℕ). merge m (byte (v .config) (a .at + v .i)) (v .left % 256)) (c .before .writable .ensures) in (
+      omega arith,
+      simp length-set (v .inv .1),
+      write-next (writable (a .s)) (a .at) (v .i) (a .n) (v .left) (v .config) _ (v .inv .2) (c .merge .result) (omega arith) (c .merge .ensures ∙ e),
+    )
+
+returns : tie.Need-returns Inv-loop μ-loop
+returns c =
+    let v = c .before .loop in
+    let a = c .before .before .args in
+    write-end (writable (a .s)) (a .at) (v .i) (a .n) (v .left) (v .config) _ (v .inv .2) (omega arith)
+
+pub config-written-spec : {M : Type 1} → statement M
+config-written-spec =
+    tie.close
+    (tie.spec
+    Inv-loop
+    μ-loop
+    loop-holds
+    add-k
+    writable-requires
+    array-read-merge
+    cast-merge
+    merge-requires
+    array-write-config
+    add-i
+    loop-less
+    loop-again
+    returns)

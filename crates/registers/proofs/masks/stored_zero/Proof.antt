@@ -1,0 +1,57 @@
+-- By the place of the byte. Assumes nothing.
+use mathlib.Core.Path.{sym, ap, _∙_}
+use borrow.Author.Tests.{eq-eqb, ne-eqb}
+use Rattle.words.proofs.ListLaws.{within-true}
+use Rattle.model.specs.declared.Form.{Form}
+use Rattle.registers.proofs.MaskLaws.{header-byte, msi-byte, other-byte}
+use borrow.Author.Needs.{needs}
+use Rattle.registers.proofs.masks.stored_zero.Statement.{statement}
+use Rattle.registers.proofs.masks.stored_zero.Tie as tie
+
+returns : tie.Need-returns
+returns c =
+    let a = c .before .before .args in
+    sym (header-byte (a .s) (a .i) (c .before .if1 .taken) .1 ∙ rw (eq-eqb _ _ (c .if2 .taken)))
+
+returns-2 : tie.Need-returns-2
+returns-2 c =
+    let a = c .before .before .args in
+    sym (header-byte (a .s) (a .i) (c .before .if1 .taken) .1 ∙ rw (ne-eqb _ _ (c .if2 .left)))
+
+form-requires : tie.Need-form-requires
+form-requires c κs = search needs
+
+within-requires : tie.Need-within-requires
+within-requires c κs = search needs
+
+sub-msi-zero : tie.Need-sub-msi-zero
+sub-msi-zero c =
+    let a = c .before .before .before .before .before .args in
+    within-true (a .s .msi .at) _ (a .i) (sym (c .before .before .within .ensures) ∙ c .before .if3 .taken) .0
+
+msi-zero-requires : tie.Need-msi-zero-requires
+msi-zero-requires c κs = search needs
+
+returns-3 : tie.Need-returns-3
+returns-3 c =
+    let a = c .before .before .before .before .before .before .args in
+    c .msi-zero .ensures
+    ∙ sym (msi-byte (a .s) (a .i) (c .before .before .before .before .form .result .size) (ap (λ (f : Form). f .size) (c .before .before .before .before .form .ensures)) (c .before .before .before .before .before .if1 .left) (sym (c .before .before .before .within .ensures) ∙ c .before .before .if3 .taken) .1)
+
+returns-4 : tie.Need-returns-4
+returns-4 c =
+    let a = c .before .before .before .before .args in
+    sym (other-byte (a .s) (a .i) (c .before .before .form .result .size) (ap (λ (f : Form). f .size) (c .before .before .form .ensures)) (c .before .before .before .if1 .left) (sym (c .before .within .ensures) ∙ c .if3 .left) .1)
+
+pub stored-zero-spec : {M : Type 1} → statement M
+stored-zero-spec =
+    tie.close
+    (tie.spec
+    returns
+    returns-2
+    form-requires
+    within-requires
+    sub-msi-zero
+    msi-zero-requires
+    returns-3
+    returns-4)

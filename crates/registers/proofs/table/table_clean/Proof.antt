@@ -1,0 +1,83 @@
+-- The bits seen are 0 exactly if the first k entries are clean. Assumes nothing.
+use mathlib.Core.Path.{_≡_, refl, sym, ap, _∙_}
+use mathlib.Core.Bool.{Bool, true}
+use Prim.Native.Nat.{ℕ, _-_, _*_, _≤_}
+use native.Mathlib.Omega.{arith}
+use lib.Dec.{eqb}
+use denote.Ref.{now}
+use Rattle.words.specs.Lists.{all, count}
+use Rattle.model.specs.Registers.{entryZero}
+use Rattle.registers.proofs.CleanLaws.{clean, zero-bits}
+use Rattle.registers.proofs.EntryLaws.{entry-clean}
+use borrow.Author.Needs.{needs}
+use Rattle.registers.proofs.table.table_clean.Statement.{statement}
+use Rattle.registers.proofs.table.table_clean.Tie as tie
+
+none : (f : ℕ → Bool) → true ≡ all f (count 0 (16 * 0))
+unfolding all count
+none f = refl
+
+abbrev Inv-loop : tie.InvT-loop
+Inv-loop table n seen₀ k₀ seen k = (k ≤ n) × (eqb seen 0 ≡ all (clean entryZero table) (count 0 (16 * k)))
+
+abbrev μ-loop : tie.MeasureT-loop
+μ-loop table n seen₀ k₀ seen k = n - k
+
+loop-holds : tie.Need-loop-holds Inv-loop μ-loop
+loop-holds c = (omega arith, none _)
+
+mul-word64 : tie.Need-mul-word64 Inv-loop μ-loop
+mul-word64 c = search needs
+
+word64-requires : tie.Need-word64-requires Inv-loop μ-loop
+word64-requires c κs = search needs
+
+mul-word64-2 : tie.Need-mul-word64-2 Inv-loop μ-loop
+mul-word64-2 c = search needs
+
+add-word64 : tie.Need-add-word64 Inv-loop μ-loop
+add-word64 c = search needs
+
+word64-requires-2 : tie.Need-word64-requires-2 Inv-loop μ-loop
+word64-requires-2 c κs = search needs
+
+add-k : tie.Need-add-k Inv-loop μ-loop
+add-k c = search needs
+
+loop-less : tie.Need-loop-less Inv-loop μ-loop
+loop-less c = search needs
+
+loop-again : tie.Need-loop-again Inv-loop μ-loop
+loop-again c =
+    let v = c .before .before .before .loop in
+    let d = c .before .before .before .before in
+    let t = now (d .before .args .table) in (
+      omega arith,
+      entry-clean t (λ i. d .shared-slice-known .given i .fits) (v .k) (v .seen) (c .before .word64 .result) (c .word642 .result)
+          (c .before .word64 .ensures) (c .word642 .ensures) (v .inv .1),
+    )
+
+returns : tie.Need-returns Inv-loop μ-loop
+returns c =
+    let v = c .before .loop in
+    let a = c .before .before .before .args in
+    let t = now (a .table) in
+    let e : v .k ≡ a .n = omega arith in
+    v .inv .1 ∙ ap (λ (k : ℕ). all (clean entryZero t) (count 0 (16 * k))) e ∙ sym (zero-bits entryZero t (16 * a .n) (c .before .before .before .pre))
+
+pub table-clean-spec : {M : Type 1} → statement M
+table-clean-spec =
+    tie.close
+    (tie.spec
+    Inv-loop
+    μ-loop
+    loop-holds
+    mul-word64
+    word64-requires
+    mul-word64-2
+    add-word64
+    word64-requires-2
+    add-k
+    loop-less
+    loop-again
+    returns)

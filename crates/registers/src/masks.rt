@@ -1,0 +1,113 @@
+// Of each configuration byte the bits that are writable, and those that are stored as 0.
+ghost use mathlib.Core.Path.{_≡_};
+ghost use Prim.Native.Nat.{_-_, _^_, _≤_, _<_};
+ghost use Rattle.words.specs.Lists.{within};
+ghost use Rattle.words.specs.Bytes.{byte};
+ghost use Rattle.model.specs.Shape.{formOf};
+ghost use Rattle.model.specs.Registers.{headerWritable, msiWritable, msiZero, maskBytes, writable, storedZero};
+use layout::form::form;
+use model::Form;
+use model::Shape;
+
+// Place k is one of the n from lo on.
+pub fn within(lo: usize, n: usize, k: usize) -> bool
+    ensures { λ r. ⌜ r ≡ within lo n k ⌝ }
+{
+    lo <= k && k - lo < n
+}
+
+// The MSI mask bits below 2^Capable.
+pub fn mask_bits(s: Shape) -> u32
+    requires { ⌜ s .msi .capable ≤ 5 ⌝ }
+    ensures { λ r. ⌜ r ≡ 2 ^ (2 ^ (s .msi .capable)) - 1 ⌝ }
+{
+    let bits = 1u32 << s.msi.capable;
+    ((1u64 << bits) - 1) as u32
+}
+
+// Byte k of them.
+fn mask_byte(s: Shape, k: usize) -> u8
+    requires { ⌜ (s .msi .capable ≤ 5) × (k < 4) ⌝ }
+    ensures { λ r. ⌜ r ≡ byte (maskBytes s) k ⌝ }
+{
+    ((mask_bits(s) >> (8 * k)) % 256) as u8
+}
+
+// Command bits 1, 2 and 10, and Interrupt Line.
+fn header_writable(i: usize) -> u8
+    ensures { λ r. ⌜ r ≡ headerWritable i ⌝ }
+{
+    if i == 4 {
+        return 0x06;
+    }
+    if i == 5 {
+        return 0x04;
+    }
+    if i == 0x3c { 0xff } else { 0 }
+}
+
+// Byte k of the MSI capability, whose form is f: control, then address and data without a gap, then the masks.
+fn msi_writable(s: Shape, f: Form, k: usize) -> u8
+    requires { ⌜ (s .msi .capable ≤ 5) × (f ≡ formOf s) ⌝ }
+    ensures { λ r. ⌜ r ≡ msiWritable s k ⌝ }
+{
+    if k < 4 {
+        return if k == 2 { 0x71 } else { 0 };
+    }
+    if k == 4 {
+        return 0xfc;
+    }
+    if k - 2 < f.message {
+        return 0xff;
+    }
+    if within(f.mask, 4, k) {
+        return mask_byte(s, k - f.mask);
+    }
+    0
+}
+
+pub fn writable(s: Shape, i: usize) -> u8
+    requires { ⌜ s .msi .capable ≤ 5 ⌝ }
+    ensures { λ r. ⌜ r ≡ writable s i ⌝ }
+{
+    if i < 64 {
+        return header_writable(i);
+    }
+    let f = form(s);
+    if within(s.msi.at, f.size, i) {
+        return msi_writable(s, f, i - s.msi.at);
+    }
+    if within(s.msix.at, 12, i) {
+        return if i - s.msix.at == 3 { 0xc0 } else { 0 };
+    }
+    0
+}
+
+// Byte k of the MSI capability: address bits 1:0, masks at or above 2^Capable, the Pending register.
+fn msi_zero(s: Shape, f: Form, k: usize) -> u8
+    requires { ⌜ (s .msi .capable ≤ 5) × (f ≡ formOf s) ⌝ }
+    ensures { λ r. ⌜ r ≡ msiZero s k ⌝ }
+{
+    if k < 8 {
+        return if k == 4 { 0x03 } else { 0 };
+    }
+    if within(f.mask, 4, k) {
+        return !mask_byte(s, k - f.mask);
+    }
+    if within(f.pending, 4, k) { 0xff } else { 0 }
+}
+
+// Status bit 3, and MSI's.
+pub fn stored_zero(s: Shape, i: usize) -> u8
+    requires { ⌜ s .msi .capable ≤ 5 ⌝ }
+    ensures { λ r. ⌜ r ≡ storedZero s i ⌝ }
+{
+    if i < 64 {
+        return if i == 6 { 0x08 } else { 0 };
+    }
+    let f = form(s);
+    if within(s.msi.at, f.size, i) {
+        return msi_zero(s, f, i - s.msi.at);
+    }
+    0
+}
