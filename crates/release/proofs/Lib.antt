@@ -7,3 +7,5 @@ pub mod PendingWords
 pub mod Clearing
 pub mod WordClear
 pub mod Releases
+pub mod Beyond
+pub mod OwedLaws

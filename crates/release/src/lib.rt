@@ -2,3 +2,4 @@
 pub mod msi; // MSI: the vectors of a word
 pub mod entry; // MSI-X: a word of vectors and their table entries
 pub mod msix; // MSI-X: the whole pending array
+pub mod pending; // MSI-X: the pending array by itself

@@ -1,0 +1,29 @@
+-- The last word, shifted down by the bits in use. Assumes nothing.
+use mathlib.Core.Path.{ap, _∙_}
+use Prim.Native.Nat.{ℕ, _/_, _%_, _^_}
+use lib.Dec.{eqb}
+use denote.Ref.{now}
+use Rattle.release.proofs.Beyond.{beyond-none, beyond-word}
+use borrow.Author.Needs.{needs}
+use Rattle.release.proofs.pending.none_beyond.Statement.{statement}
+use Rattle.release.proofs.pending.none_beyond.Tie as tie
+
+returns : tie.Need-returns
+returns c = beyond-none _ (c .before .before .args .n) _ (c .before .before .pre) (c .if1 .taken)
+
+mul-word64 : tie.Need-mul-word64
+mul-word64 c = search needs
+
+word64-requires : tie.Need-word64-requires
+word64-requires c κs = search needs
+
+shr-result : tie.Need-shr-result
+shr-result c = search needs
+
+returns-2 : tie.Need-returns-2
+returns-2 c = let s = c .before .before .before in
+    ap (λ (x : ℕ). eqb (x / 2 ^ (s .args .n % 64)) 0) (c .word64 .ensures)
+    ∙ beyond-word (now (s .args .pending)) (s .args .n) (λ i. c .before .before .shared-slice-known .given i .fits) (s .pre) (c .before .if1 .left)
+
+pub none-beyond-spec : {M : Type 1} → statement M
+none-beyond-spec = tie.close (tie.spec returns mul-word64 word64-requires shr-result returns-2)
