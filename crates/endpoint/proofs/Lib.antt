@@ -1,2 +1,4 @@
 pub mod SweepFor
 pub mod ReadyFit
+pub mod SoundParts
+pub mod CleanLaws

@@ -34,6 +34,7 @@ use Rattle.vectors.proofs.MessageLaws.{base-message}
 use Rattle.vectors.proofs.MsixLaws.{open-msix}
 use Rattle.vectors.proofs.OpenLaws.{owed-msi, owed-shut}
 use Rattle.release.specs.Owed.{setBits, msiPackets, entries, maskedAt, waitsAt, owes, owedEntries, entryMessage, entryPackets, clearPending, Lent, Released}
+use Rattle.release.proofs.OwedLaws.{entries-fit}
 use Rattle.release.proofs.Clearing.{clear-msix, clear-msi, clear-part, clear-nothing}
 use Rattle.endpoint.specs.Sweeps.{bytesFor, sweptFor, Swept}
 
@@ -81,20 +82,16 @@ unfolding sweptFor clearAll
 off-swept s u e = rw (owed-shut s u e)
 
 module _ (s : Shape) (u : Endpoint) (on : msixEnabled s (registers u) ≡ true) (fit : length (u .table) ≡ tableBytes s) where
-  count-entries : entries (u .table) ≡ s .msix .vectors
-  unfolding tableBytes
-  count-entries = let e : length (u .table) ≡ 16 * s .msix .vectors = fit in omega arith
-
   open-here : (v : ℕ) → v < s .msix .vectors → isOpen Msix s (registers u) v ≡ not (maskedAt (u .table) v)
   unfolding masked maskedAt
   open-here v h = open-msix s (registers u) v ∙ rw (on, lt-ltb v (s .msix .vectors) h)
 
-  owed-here : owed Msix s u ≡ owedEntries (u .table) (u .pending) (entries (u .table))
+  pub owed-here : owed Msix s u ≡ owedEntries (u .table) (u .pending) (entries (u .table))
   unfolding owed owedEntries vectorCount owes waits waitsAt
   owed-here =
       keep-same (λ v. isOpen Msix s (registers u) v && waits Msix u v) (owes (u .table) (u .pending)) (count 0 (s .msix .vectors))
       (λ v m. ap (λ (b : Bool). b && waits Msix u v) (open-here v (let p = member-count 0 (s .msix .vectors) v m in omega arith)))
-      ∙ ap (λ (n : ℕ). keep (owes (u .table) (u .pending)) (count 0 n)) (sym count-entries)
+      ∙ ap (λ (n : ℕ). keep (owes (u .table) (u .pending)) (count 0 n)) (sym (entries-fit s (u .table) fit))
 
   pub msix-bytes : bytesFor Msix s u ≡ entryPackets (u .function .requester) (u .table) (owedEntries (u .table) (u .pending) (entries (u .table)))
   unfolding bytesFor messageOf entryMessage

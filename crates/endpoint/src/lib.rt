@@ -1,2 +1,3 @@
 // One function of the card, without the wire.
+pub mod sound;
 pub mod sweep;

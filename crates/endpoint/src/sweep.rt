@@ -25,7 +25,7 @@ pub struct Sent {
 }
 
 // The open waiting vectors of MSI, a bit for each.
-fn msi_owed(f: Function, s: Shape) -> u32
+pub fn msi_owed(f: Function, s: Shape) -> u32
     requires { ⌜ FitShape s ⌝ }
     ensures { λ r. ⌜ ((t p : List ℕ) → owed Mode.Msi s (endpointOf f t p) ≡ setBits 32 r) ⌝ }
 {

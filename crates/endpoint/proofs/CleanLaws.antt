@@ -1,0 +1,63 @@
+-- The soundness check of a function that a start accepts, by each way out. Assumes nothing.
+use mathlib.Core.Path.{_≡_, refl, sym, ap, _∙_}
+use mathlib.Core.Bool.{Bool, true, false, not}
+use mathlib.Core.List.{List}
+use Prim.Native.Nat.{ℕ, _*_, _≤_}
+use lib.ListN.{length}
+use borrow.Author.Tests.{ne-eqb, not-true, not-false}
+use Rattle.model.specs.declared.Function.{Function}
+use Rattle.model.specs.declared.Shape.{Shape}
+use Rattle.model.specs.Shape.{shapeOf, formOf, msiPresent, tableBytes, pendingBytes}
+use Rattle.model.specs.Registers.{storedZero, entryZero}
+use Rattle.model.specs.World.{Endpoint, endpointOf}
+use Rattle.model.specs.Release.{owedNow}
+use Rattle.model.specs.Start.{startRefusal}
+use Rattle.model.specs.Sound.{givenOf, shape, zeroBits, waitsBelow, isEmpty, soundEndpoint}
+use Rattle.model.specs.Fit.{Fit}
+use Rattle.model.specs.Ready.{Below, Ready}
+use Rattle.model.proofs.SoundLaws.{accepts}
+use Rattle.model.proofs.StartLaws.{msi-high}
+use Rattle.model.proofs.FitLaws.{fit}
+use Rattle.model.proofs.SettleLaws.{below}
+use Rattle.model.proofs.SoundTests.{unsound-start, unsound-config, unsound-table, unsound-below, sound-owed}
+use Rattle.registers.specs.Bounds.{MsiBounds}
+
+module _ (s : Shape) (u : Endpoint) (e : s ≡ shape u) (k : startRefusal (givenOf u) ≡ 0) where
+  pub start-fit : Fit s (length (u .table)) (length (u .pending))
+  start-fit = rw (sym e) at (fit (givenOf u) (accepts (givenOf u) k))
+
+  pub start-bounds : MsiBounds s
+  start-bounds = record { ends = start-fit .msi; capable = start-fit .capable; high = rw e (msi-high (u .function .config)) }
+
+  pub start-table : length (u .table) ≡ 16 * s .msix .vectors
+  unfolding tableBytes
+  start-table = start-fit .table
+
+module _ (s : Shape) (u : Endpoint) (c t w : Bool) (ec : c ≡ zeroBits (storedZero s) (u .function .config)) (et : t ≡ zeroBits entryZero (u .table)) (ew : w ≡ waitsBelow s u) where
+  -- all three pass
+  pub all-clean : s ≡ shape u → startRefusal (givenOf u) ≡ 0 → not c ≡ false → not t ≡ false → not w ≡ false → Ready s u
+  all-clean e k nc nt nw = record {
+    shaped = sym e;
+    start = k;
+    config = sym ec ∙ not-false c nc;
+    table = sym et ∙ not-false t nt;
+    below = below s u (sym ew ∙ not-false w nw);
+  }
+
+  pub by-owed : (r : Bool) → startRefusal (givenOf u) ≡ 0 → not c ≡ false → not t ≡ false → not w ≡ false → r ≡ isEmpty (owedNow s u) → r ≡ soundEndpoint s u
+  by-owed r k nc nt nw q = q ∙ sym (sound-owed s u k (sym ec ∙ not-false c nc) (sym et ∙ not-false t nt) (sym ew ∙ not-false w nw))
+
+pub bad-config : (s : Shape) (u : Endpoint) (c : Bool) → c ≡ zeroBits (storedZero s) (u .function .config) → not c ≡ true → false ≡ soundEndpoint s u
+bad-config s u c e n = sym (unsound-config s u (sym e ∙ not-true c n))
+
+pub bad-table : (s : Shape) (u : Endpoint) (t : Bool) → t ≡ zeroBits entryZero (u .table) → not t ≡ true → false ≡ soundEndpoint s u
+bad-table s u t e n = sym (unsound-table s u (sym e ∙ not-true t n))
+
+pub bad-below : (s : Shape) (u : Endpoint) (w : Bool) → w ≡ waitsBelow s u → not w ≡ true → false ≡ soundEndpoint s u
+bad-below s u w e n = sym (unsound-below s u (sym e ∙ not-true w n))
+
+pub bad-start : (s : Shape) (u : Endpoint) (n : ℕ) → n ≡ startRefusal (givenOf u) → (n ≡ 0 → ⊥) → false ≡ soundEndpoint s u
+bad-start s u n e z = sym (unsound-start s u n (sym e) (ne-eqb n 0 z))
+
+pub with-shape : (s t : Shape) (u : Endpoint) (r : Bool) → s ≡ t → r ≡ soundEndpoint s u → r ≡ soundEndpoint t u
+with-shape s t u r e k = rw (← e) k
