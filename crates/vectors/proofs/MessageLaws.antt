@@ -1,14 +1,11 @@
 -- The message of a vector from its parts. Assumes nothing.
 use mathlib.Core.Path.{_≡_, refl}
 use mathlib.Core.Bool.{true, false}
-use Prim.Native.Nat.{ℕ, _+_, _*_, _<_, _≤_}
-use native.Mathlib.Omega.{arith}
+use Prim.Native.Nat.{ℕ, _+_}
 use Rattle.words.specs.Bytes.{word32}
-use Rattle.model.specs.declared.Mode.the-variants.{Pin, Msi, Msix}
+use Rattle.model.specs.declared.Mode.the-variants.{Msi}
 use Rattle.model.specs.declared.Shape.{Shape}
-use Rattle.model.specs.Shape.{tableBytes}
 use Rattle.model.specs.World.{Registers}
-use Rattle.model.specs.Vectors.{vectorCount}
 use Rattle.model.specs.Packets.{message, messageOf, msiUpper}
 use Rattle.vectors.specs.Messages.{msiBase}
 
@@ -26,13 +23,3 @@ pub base-message : (s : Shape) (r : Registers) (requester v : ℕ)
     → message requester (msiBase s r .upper) (msiBase s r .address) (msiBase s r .value + v) ≡ messageOf Msi s requester r v
 unfolding msiBase messageOf
 base-message s r requester v = refl
-
--- the pin has no vector
-pub no-vector : (s : Shape) (v : ℕ) → v < vectorCount Pin s → ⊥
-unfolding vectorCount
-no-vector s v h = omega arith
-
--- the entry of a vector lies inside the table
-pub entry-inside : (s : Shape) (v n : ℕ) → v < vectorCount Msix s → n ≡ tableBytes s → 16 * v + 16 ≤ n
-unfolding vectorCount tableBytes
-entry-inside s v n h e = omega arith

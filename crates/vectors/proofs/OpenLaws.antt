@@ -1,12 +1,11 @@
 -- Open vectors of any mechanism, and those that are owed. Assumes nothing.
 use mathlib.Core.Path.{_≡_, sym, ap, _∙_}
-use mathlib.Core.Bool.{Bool, true, false, cond, _&&_, and-false}
+use mathlib.Core.Bool.{Bool, false, _&&_, and-false}
 use mathlib.Core.List.{[], append-nil}
-use Prim.Native.Nat.{ℕ, _+_, _-_, _^_, _≤_}
+use Prim.Native.Nat.{ℕ, _+_, _-_, _≤_}
 use native.Mathlib.Nat.{zero-add}
 use native.Mathlib.Omega.{arith}
 use lib.Bits.{bitAnd}
-use lib.Pow.{pow-mono}
 use Rattle.words.specs.Lists.{keep, count}
 use Rattle.words.specs.Bits.{bit}
 use Rattle.words.proofs.BoolLaws.{by-test}
@@ -15,12 +14,12 @@ use Rattle.words.proofs.ListLaws.{keep-same, keep-none, keep-append, count-appe
 use Rattle.model.specs.declared.Mode.{Mode}
 use Rattle.model.specs.declared.Mode.the-variants.{Pin, Msi, Msix}
 use Rattle.model.specs.declared.Shape.{Shape}
-use Rattle.model.specs.Shape.{msiPresent, msiVectors}
 use Rattle.model.specs.World.{Endpoint, Registers, registers}
 use Rattle.model.specs.Vectors.{enabled, isOpen, waits, owed, vectorCount}
 use Rattle.model.proofs.SweepLaws.{open-counted}
 use Rattle.vectors.specs.Enabled.{msixEnabled}
 use Rattle.vectors.proofs.MsixLaws.{open-msix}
+use Rattle.vectors.proofs.CountLaws.{msi-count}
 
 -- the pin has no vectors
 pub pin-shut : (s : Shape) (r : Registers) (v : ℕ) → isOpen Pin s r v ≡ false
@@ -43,14 +42,6 @@ owed-among m s u k h =
     (λ v l.
     by-test (isOpen m s (registers u) v) (λ o. absurd (omega (arith, l, open-counted m s (registers u) v o)))
     (λ o. ap (λ (b : Bool). b && waits m u v) o))
-
-msi-count : (s : Shape) → s .msi .capable ≤ 5 → vectorCount Msi s ≤ 32
-unfolding vectorCount msiVectors
-msi-count s h = go (msiPresent s)
-  where
-    go : (b : Bool) → cond b (2 ^ (s .msi .capable)) 0 ≤ 32
-    go true = pow-mono h
-    go false = omega arith
 
 -- MSI: w has a bit for each open vector
 pub owed-msi : (s : Shape) (u : Endpoint) (w : ℕ) → s .msi .capable ≤ 5 → ((v : ℕ) → bit w v ≡ isOpen Msi s (registers u) v)

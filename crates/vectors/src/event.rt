@@ -16,10 +16,11 @@ pub fn vector(e: Event, m: Mode, granted: u32) -> Vector
     requires { ⌜ 0 < granted ⌝ }
     ensures { λ r. ⌜ r .0 ≡ vectorBy m granted (e .0) ⌝ }
 {
+    let n = e.0;
     match m {
-        Mode::Pin => Vector(e.0),
-        Mode::Msi => Vector(((e.0 as u32) % granted) as u16),
-        Mode::Msix => Vector(e.0),
+        Mode::Pin => Vector(n),
+        Mode::Msi => Vector(((n as u32) % granted) as u16),
+        Mode::Msix => Vector(n),
     }
 }
 

@@ -12,14 +12,14 @@ enum-told c = search needs
 enum-told-2 : tie.Need-enum-told-2
 enum-told-2 c = search needs
 
-cast-t5 : tie.Need-cast-t5
-cast-t5 c = search needs
+cast-t6 : tie.Need-cast-t6
+cast-t6 c = search needs
 
-rem-t6 : tie.Need-rem-t6
-rem-t6 c = search needs
+rem-t7 : tie.Need-rem-t7
+rem-t7 c = search needs
 
-cast-t7 : tie.Need-cast-t7
-cast-t7 c = let a = c .before .before .before .args in omega (arith, mod-le (a .e .0) (a .granted))
+cast-t8 : tie.Need-cast-t8
+cast-t8 c = let a = c .before .before .args in omega (arith, mod-le (a .e .0) (a .granted))
 
 enum-told-3 : tie.Need-enum-told-3
 enum-told-3 c = search needs
@@ -30,7 +30,7 @@ returns c = rw (c .enum-told .given .1)
 
 returns-2 : tie.Need-returns-2
 unfolding vectorBy
-returns-2 c = rw (c .before .enum-told2 .given .1)
+returns-2 c = rw (c .enum-told2 .given .1)
 
 returns-3 : tie.Need-returns-3
 unfolding vectorBy
@@ -39,4 +39,4 @@ returns-3 c = rw (c .enum-told3 .given .1)
 pub vector-spec : {M : Type 1} → statement M
 vector-spec =
     tie.close
-    (tie.spec enum-told enum-told-2 cast-t5 rem-t6 cast-t7 enum-told-3 returns returns-2 returns-3)
+    (tie.spec enum-told enum-told-2 cast-t6 rem-t7 cast-t8 enum-told-3 returns returns-2 returns-3)

@@ -2,7 +2,7 @@
 use lib.ListN.{length}
 use denote.Ref.{now}
 use borrow.Author.Needs.{needs}
-use Rattle.vectors.proofs.MessageLaws.{no-vector, entry-inside}
+use Rattle.vectors.proofs.CountLaws.{pin-has-none, entry-inside}
 use Rattle.vectors.proofs.message.vector_message.Statement.{statement}
 use Rattle.vectors.proofs.message.vector_message.Tie as tie
 
@@ -21,12 +21,12 @@ enum-told-3 c = search needs
 msix-message-requires : tie.Need-msix-message-requires
 msix-message-requires c κs =
     let a = c .before .before .before in
-    entry-inside (a .args .s) (a .args .v .0) (length (now (a .args .table))) (rw (c .enum-told3 .given .1) at (a .pre .2)) (a .pre .1)
+    entry-inside (a .args .s) (length (now (a .args .table))) (a .args .v .0) (rw (c .enum-told3 .given .1) at (a .pre .2)) (a .pre .1)
 
 returns : tie.Need-returns
 returns c =
     let a = c .before .before .before in
-    absurd (no-vector (a .args .s) (a .args .v .0) (rw (c .enum-told .given .1) at (a .pre .2)))
+    absurd (pin-has-none (a .args .s) (a .args .v .0) (rw (c .enum-told .given .1) at (a .pre .2)))
 
 returns-2 : tie.Need-returns-2
 returns-2 c = λ requester. rw (c .before .enum-told2 .given .1) (c .msi-message .ensures requester (now (c .before .before .before .before .args .table)))
