@@ -41,6 +41,10 @@ owes table pending v = not (maskedAt table v) && waitsAt pending v
 unfoldable pub owedEntries : List ℕ → List ℕ → ℕ → List ℕ
 owedEntries table pending n = keep (owes table pending) (count 0 n)
 
+-- of the whole table
+abbrev pub owedAll : List ℕ → List ℕ → List ℕ
+owedAll table pending = owedEntries table pending (entries table)
+
 -- the message of entry v
 unfoldable pub entryMessage : (requester : ℕ) → List ℕ → ℕ → List ℕ
 entryMessage requester table v = message requester (word32 table (16 * v + 4)) (word32 table (16 * v)) (word32 table (16 * v + 8))
@@ -51,6 +55,11 @@ entryPackets requester table vs = join (entryMessage requester table) vs
 -- a pending array with the bits of vectors vs cleared
 unfoldable pub clearPending : List ℕ → List ℕ → List ℕ
 clearPending pending vs = clearAll Msix (endpointOf zeroFunction [] pending) vs .pending
+
+-- the packets of vectors vs are written, and their bits cleared
+pub record Released (requester : ℕ) (table vs p o : List ℕ) (r : ℕ) (p′ o′ : List ℕ) : Type 0 where
+  pub sent : Wrote (entryPackets requester table vs) o r o′
+  pub cleared : p′ ≡ clearPending p vs
 
 -- what the code asks of the lent buffers
 pub record Lent (table pending : List ℕ) : Type 0 where
@@ -71,10 +80,6 @@ Unmasked table base w r = (j : ℕ) → bit r j ≡ (bit w j && not (maskedAt ta
 abbrev pub owedWord : List ℕ → List ℕ → ℕ → List ℕ
 owedWord table pending at = keep (owes table pending) (count (8 * at) 64)
 
--- the packets of vectors vs are written, and their bits cleared
-pub record Released (requester : ℕ) (table vs p o : List ℕ) (r : ℕ) (p′ o′ : List ℕ) : Type 0 where
-  pub sent : Wrote (entryPackets requester table vs) o r o′
-  pub cleared : p′ ≡ clearPending p vs
-
+-- the packets of its set bits
 abbrev pub wordPackets : (requester : ℕ) → List ℕ → ℕ → ℕ → List ℕ
 wordPackets requester table base w = join (λ j. entryMessage requester table (base + j)) (setBits 64 w)

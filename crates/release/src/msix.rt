@@ -3,7 +3,7 @@ ghost use Prim.Native.Nat.{ℕ, _+_, _*_, _≤_};
 ghost use lib.ListN.{length};
 ghost use Rattle.words.specs.Bytes.{word64};
 ghost use Rattle.model.specs.Sound.{isEmpty};
-ghost use Rattle.release.specs.Owed.{Lent, Released, Unmasked, entries, owedEntries, owedWord, entryPackets};
+ghost use Rattle.release.specs.Owed.{Lent, Released, Unmasked, owedAll, owedWord, entryPackets};
 use crate::entry::unmasked;
 use crate::entry::word_send;
 use crate::entry::word_size;
@@ -19,7 +19,7 @@ fn open_word(table: &[u8], pending: &[u8], at: usize) -> u64
 // The bytes of the messages of the owed vectors.
 pub fn msix_size(table: &[u8], pending: &[u8]) -> usize
     requires { ⌜ Lent (now table) (now pending) ⌝ }
-    ensures { λ r. ⌜ ((requester : ℕ) → r ≡ length (entryPackets requester (now (table .entry)) (owedEntries (now (table .entry)) (now (pending .entry)) (entries (now (table .entry)))))) ⌝ }
+    ensures { λ r. ⌜ ((requester : ℕ) → r ≡ length (entryPackets requester (now (table .entry)) (owedAll (now (table .entry)) (now (pending .entry))))) ⌝ }
 {
     let mut n: usize = 0;
     let mut at: usize = 0;
@@ -33,7 +33,7 @@ pub fn msix_size(table: &[u8], pending: &[u8]) -> usize
 // No vector is owed.
 pub fn none_owed(table: &[u8], pending: &[u8]) -> bool
     requires { ⌜ Lent (now table) (now pending) ⌝ }
-    ensures { λ r. ⌜ r ≡ isEmpty (owedEntries (now (table .entry)) (now (pending .entry)) (entries (now (table .entry)))) ⌝ }
+    ensures { λ r. ⌜ r ≡ isEmpty (owedAll (now (table .entry)) (now (pending .entry))) ⌝ }
 {
     let mut at: usize = 0;
     while at < pending.len() {
@@ -67,8 +67,8 @@ fn release_word(
 
 // Sends the owed vectors, the lowest first, and clears their bits.
 pub fn msix_send(out: &mut [u8], table: &[u8], pending: &mut [u8], requester: u16) -> usize
-    requires { ⌜ Lent (now table) (now pending) × (length (entryPackets requester (now table) (owedEntries (now table) (now pending) (entries (now table)))) ≤ length (now out)) ⌝ }
-    ensures { λ r. ⌜ Released requester (now (table .entry)) (owedEntries (now (table .entry)) (now (pending .entry)) (entries (now (table .entry)))) (now (pending .entry)) (now (out .entry)) r (now (pending .exit)) (now (out .exit)) ⌝ }
+    requires { ⌜ Lent (now table) (now pending) × (length (entryPackets requester (now table) (owedAll (now table) (now pending))) ≤ length (now out)) ⌝ }
+    ensures { λ r. ⌜ Released requester (now (table .entry)) (owedAll (now (table .entry)) (now (pending .entry))) (now (pending .entry)) (now (out .entry)) r (now (pending .exit)) (now (out .exit)) ⌝ }
 {
     let mut sent: usize = 0;
     let mut at: usize = 0;
