@@ -1,0 +1,198 @@
+/*
+ * The interrupts of one PCIe endpoint function: pin (INTx), MSI and MSI-X.
+ *
+ * The archive is built by `rt staticlib capi` as target/staticlib/libcapi.a.
+ *
+ * A card crosses this interface as 289 bytes, those that stand in a saved
+ * image from the flags to the last configuration byte, numbers little-endian:
+ *
+ *     byte 0         flags: bit 0 line, bit 1 wire, the rest 0
+ *     bytes 1, 2     E, the number of events
+ *     bytes 3, 4     requester ID
+ *     bytes 5 to 8   MSI waiting bits
+ *     bytes 9 to 32  six BAR sizes of 32 bits
+ *     bytes 33 on    256 configuration bytes
+ *
+ * The MSI-X table (16 bytes for each of N vectors) and the pending array
+ * (8 bytes for each 64 vectors or part of them) are lent at each call. N is
+ * MSI-X Table Size + 1, or 0 with no MSI-X.
+ *
+ * Every function takes any bytes, numbers and lengths, and returns 0 or the
+ * number of its refusal. A refused call changes no byte of card, table,
+ * pending array or output, and sets value, count and answer to 0; only a start
+ * that is refused with 10 to 17 leaves a card of 289 zeros.
+ *
+ * No pointer may be null, not even one with a length of 0, and a buffer that
+ * is written may not overlap another one.
+ */
+#ifndef MUSGARENTO_H
+#define MUSGARENTO_H
+
+#include <stddef.h>
+#include <stdint.h>
+
+#ifdef __cplusplus
+extern "C" {
+#endif
+
+/* The bytes of a card, and of the configuration given to a start. */
+#define MUSGARENTO_CARD_BYTES 289
+#define MUSGARENTO_CONFIG_BYTES 256
+/* The number of BAR sizes given to a start. */
+#define MUSGARENTO_SIZES 6
+/* The most bytes of packets that one call makes, and the longest image. */
+#define MUSGARENTO_PACKET_BYTES 40976
+#define MUSGARENTO_IMAGE_BYTES 33318
+
+/* The refusals, in the order in which they are checked. */
+enum musgarento_refusal {
+    MUSGARENTO_ACCEPTED = 0,
+
+    /* Of every function. Another length than 289, 256 and 6 of card,
+       configuration or sizes, or a card whose flags byte has a bit above 1
+       set. Nothing changes, not even the card of a start. */
+    MUSGARENTO_LENGTHS = 60,
+
+    /* Of a running card: */
+    /* card not sound (all calls but start and restore) */
+    MUSGARENTO_NOT_SOUND = 1,
+    /* event number E or more */
+    MUSGARENTO_EVENT = 2,
+    /* configuration width not 1, 2, 4, offset not a multiple of it, or above
+       255 */
+    MUSGARENTO_CONFIG_ACCESS = 3,
+    /* BAR above 5, width not 4 or 8, offset not a multiple, or outside table
+       and pending array */
+    MUSGARENTO_BAR_ACCESS = 4,
+    /* BAR access with Command bit 1 clear */
+    MUSGARENTO_MEMORY_SPACE = 5,
+    /* output shorter than this call's packets or image */
+    MUSGARENTO_ROOM = 6,
+
+    /* Of a start: */
+    /* byte 0Eh low seven bits not 0, or pin (3Dh) above 4 */
+    MUSGARENTO_HEADER = 10,
+    /* list broken */
+    MUSGARENTO_LIST = 11,
+    /* ID 05h or 11h listed twice */
+    MUSGARENTO_TWICE = 12,
+    /* Multiple Message Capable above 5; or a structure runs past byte FFh,
+       overlaps the other one, or has another listed header's first two bytes
+       inside it */
+    MUSGARENTO_STRUCTURE = 13,
+    /* a BIR above 5; table (16N bytes) or pending array past its BAR's size;
+       or the two overlapping in one BAR */
+    MUSGARENTO_REGION = 14,
+    /* E not 1 to 2,048, or MSI-X present and N not E */
+    MUSGARENTO_EVENTS = 15,
+    /* requester's low three bits not 0 */
+    MUSGARENTO_REQUESTER = 16,
+    /* table buffer not 16N bytes, or pending buffer not 8 x (N/64 rounded up)
+       bytes; of a restore, checked last: lent buffers of other lengths */
+    MUSGARENTO_BUFFERS = 17,
+
+    /* Of a restore: */
+    /* image under 294 bytes or wrong mark */
+    MUSGARENTO_MARK = 20,
+    /* version not 1 */
+    MUSGARENTO_VERSION = 21,
+    /* any other image that no sound card saves */
+    MUSGARENTO_IMAGE = 22
+};
+
+/* What became of an accepted event. */
+enum musgarento_answer {
+    /* one packet was sent */
+    MUSGARENTO_SENT = 1,
+    /* the waiting bit went from 0 to 1 */
+    MUSGARENTO_HELD = 2,
+    /* the waiting bit was 1 already */
+    MUSGARENTO_MERGED = 3,
+    /* the pin is in force, nothing was kept */
+    MUSGARENTO_LOST = 4
+};
+
+/* Starts a card from 256 configuration bytes, six BAR sizes, the number of
+   events and the requester ID. Refusals: 60, 10 to 17. What the card's bytes
+   were before does not matter. */
+uint8_t musgarento_start(uint8_t *card, size_t card_len,
+                         const uint8_t *config, size_t config_len,
+                         const uint32_t *sizes, size_t sizes_len,
+                         uint16_t events, uint16_t requester,
+                         uint8_t *table, size_t table_len,
+                         uint8_t *pending, size_t pending_len);
+
+/* Reads 1, 2 or 4 configuration bytes. The bytes of the value beyond the width
+   are 0. Refusals: 60, 1, 3. */
+uint8_t musgarento_config_read(const uint8_t *card, size_t card_len,
+                               const uint8_t *table, size_t table_len,
+                               const uint8_t *pending, size_t pending_len,
+                               uint16_t offset, uint8_t width,
+                               uint32_t *value);
+
+/* Writes 1, 2 or 4 configuration bytes; count is the number of bytes of the
+   packets that this sends. Refusals: 60, 1, 3, 6. */
+uint8_t musgarento_config_write(uint8_t *card, size_t card_len,
+                                const uint8_t *table, size_t table_len,
+                                uint8_t *pending, size_t pending_len,
+                                uint16_t offset, uint8_t width, uint32_t value,
+                                uint8_t *out, size_t out_len, size_t *count);
+
+/* Reads 4 or 8 bytes of the table or the pending array. Refusals: 60, 1, 4,
+   5. */
+uint8_t musgarento_bar_read(const uint8_t *card, size_t card_len,
+                            const uint8_t *table, size_t table_len,
+                            const uint8_t *pending, size_t pending_len,
+                            uint8_t bar, uint32_t offset, uint8_t width,
+                            uint64_t *value);
+
+/* Writes 4 or 8 bytes of the table; a write to the pending array is accepted
+   and changes nothing. Refusals: 60, 1, 4, 5, 6. */
+uint8_t musgarento_bar_write(uint8_t *card, size_t card_len,
+                             uint8_t *table, size_t table_len,
+                             uint8_t *pending, size_t pending_len,
+                             uint8_t bar, uint32_t offset, uint8_t width,
+                             uint64_t value,
+                             uint8_t *out, size_t out_len, size_t *count);
+
+/* A device event. Refusals: 60, 1, 2, 6. */
+uint8_t musgarento_event(uint8_t *card, size_t card_len,
+                         const uint8_t *table, size_t table_len,
+                         uint8_t *pending, size_t pending_len,
+                         uint16_t number,
+                         uint8_t *out, size_t out_len,
+                         uint8_t *answer, size_t *count);
+
+/* Sets the device's line: level 0 is low, anything else high. Refusals: 60, 1,
+   6. */
+uint8_t musgarento_line(uint8_t *card, size_t card_len,
+                        const uint8_t *table, size_t table_len,
+                        uint8_t *pending, size_t pending_len,
+                        uint8_t level,
+                        uint8_t *out, size_t out_len, size_t *count);
+
+/* Resets the card. Refusals: 60, 1, 6. */
+uint8_t musgarento_reset(uint8_t *card, size_t card_len,
+                         uint8_t *table, size_t table_len,
+                         uint8_t *pending, size_t pending_len,
+                         uint8_t *out, size_t out_len, size_t *count);
+
+/* Writes an image of 294 + 16N + 8 x (N/64 rounded up) bytes. Refusals: 60, 1,
+   6. */
+uint8_t musgarento_save(const uint8_t *card, size_t card_len,
+                        const uint8_t *table, size_t table_len,
+                        const uint8_t *pending, size_t pending_len,
+                        uint8_t *out, size_t out_len, size_t *count);
+
+/* Restores card, table and pending array from an image; the card handed in
+   need not be sound. Sends nothing. Refusals: 60, 20, 21, 22, 17. */
+uint8_t musgarento_restore(uint8_t *card, size_t card_len,
+                           uint8_t *table, size_t table_len,
+                           uint8_t *pending, size_t pending_len,
+                           const uint8_t *image, size_t image_len);
+
+#ifdef __cplusplus
+}
+#endif
+
+#endif

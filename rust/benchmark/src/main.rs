@@ -1,0 +1,82 @@
+//! Times of the proved card's calls, through the C interface, against the
+//! second model and against a plain scan of the buffers. Prints a Markdown
+//! table. `--rounds R` sets the number of rounds.
+
+mod cases;
+mod floor;
+mod measure;
+mod state;
+
+use cases::{cases, Case};
+use measure::{medians, ROUND};
+use std::env;
+use std::hint::black_box;
+use std::process::ExitCode;
+
+/// The numbers of vectors measured.
+const VECTORS: [usize; 4] = [0, 1, 64, 2048];
+
+/// The number of rounds that the command line asks for.
+fn rounds() -> Option<usize> {
+    let words: Vec<String> = env::args().skip(1).collect();
+    match &words[..] {
+        [] => Some(21),
+        [word, number] if word == "--rounds" => number.parse().ok().filter(|&rounds| rounds > 0),
+        _ => None,
+    }
+}
+
+/// Measures a case and prints its row.
+fn print_row(case: &mut Case, rounds: usize) {
+    let table = vec![0_u8; 16 * case.vectors];
+    let pending = vec![0_u8; 8 * case.vectors.div_ceil(64)];
+    assert_eq!((case.proved)(4), 0, "{} by the proved card", case.name);
+    assert_eq!((case.second)(4), 0, "{} by the second model", case.name);
+    let [proved, second, floor] = medians(
+        [
+            &mut |calls| {
+                black_box((case.proved)(calls));
+            },
+            &mut |calls| {
+                black_box((case.second)(calls));
+            },
+            &mut |calls| {
+                for _ in 0..calls {
+                    black_box(floor::scan(black_box(&table), black_box(&pending)));
+                }
+            },
+        ],
+        rounds,
+    );
+    let ratio = proved / second;
+    let floors = match case.vectors {
+        0 => "- | -".to_string(),
+        _ => format!("{floor:.0} | {:.2}", proved / floor),
+    };
+    println!(
+        "| {} | {} | {proved:.0} | {second:.0} | {ratio:.2} | {floors} |",
+        case.name, case.vectors
+    );
+}
+
+fn main() -> ExitCode {
+    let Some(rounds) = rounds() else {
+        eprintln!("usage: benchmark [--rounds R]");
+        return ExitCode::from(2);
+    };
+    println!("Nanoseconds for a call: the median of {rounds} rounds, each of at least");
+    println!("{ROUND:?}, in which the three take turns, in one run on one machine, all");
+    println!("built for release. The input is the same for both models. Buffers and output");
+    println!("were not cleared before a call. The proved card is called through the C");
+    println!("interface with its 289 bytes, the second model with its own struct. The floor");
+    println!("of the soundness check is a scan of table and pending array by 64-bit words.");
+    println!("A release copies card and pending array back before each call, in both.\n");
+    println!("| Call | N | Proved | Second model | Proved / second | Floor | Proved / floor |");
+    println!("|---|---:|---:|---:|---:|---:|---:|");
+    for vectors in VECTORS {
+        for case in &mut cases(vectors) {
+            print_row(case, rounds);
+        }
+    }
+    ExitCode::SUCCESS
+}

@@ -1,0 +1,215 @@
+//! Both models side by side: each step is made on both, and everything is
+//! compared after it.
+
+use crate::call::{Call, Damage, Image, Outcome, Room, Step};
+use crate::second;
+use crate::world::{card_byte_name, Part, World, ROOM};
+use std::collections::BTreeMap;
+
+/// A model under comparison: makes a call on a world.
+pub type Model<'a> = &'a dyn Fn(&mut World, &Call, &[u8]) -> Outcome;
+
+/// Two worlds, and the images kept.
+pub struct Pair<'a> {
+    model: Model<'a>,
+    tested: World,
+    second: World,
+    images: BTreeMap<usize, Vec<u8>>,
+}
+
+/// In what the models differ after a call, line by line.
+#[derive(Clone, Debug, PartialEq, Eq)]
+pub struct Difference(pub Vec<String>);
+
+/// A call that was made, for the statistics.
+pub struct Made<'a> {
+    pub call: &'a Call,
+    pub room: Room,
+    pub outcome: Outcome,
+    pub out: &'a [u8],
+    pub card: &'a [u8],
+}
+
+impl<'a> Pair<'a> {
+    /// Two empty worlds.
+    pub fn new(model: Model<'a>) -> Pair<'a> {
+        Pair {
+            model,
+            tested: World::default(),
+            second: World::default(),
+            images: BTreeMap::new(),
+        }
+    }
+
+    /// The second model's world, which is the other's too as long as there is
+    /// no difference.
+    pub fn world(&self) -> &World {
+        &self.second
+    }
+
+    /// The numbers of the images kept.
+    pub fn kept(&self) -> Vec<usize> {
+        self.images.keys().copied().collect()
+    }
+
+    /// The image kept under a number.
+    pub fn image(&self, number: usize) -> &[u8] {
+        self.images.get(&number).map_or(&[], |image| image)
+    }
+
+    /// Makes a step on both.
+    pub fn step<'b>(&'b mut self, step: &'b Step) -> Result<Option<Made<'b>>, Difference> {
+        match step {
+            Step::Call(call, room) => self.call(call, *room).map(Some),
+            change => {
+                make_change(&mut self.tested, change);
+                make_change(&mut self.second, change);
+                Ok(None)
+            }
+        }
+    }
+
+    /// Makes a call on both and compares.
+    fn call<'b>(&'b mut self, call: &'b Call, room: Room) -> Result<Made<'b>, Difference> {
+        let image = self.image_of(call);
+        let length = self.output_length(call, room, &image);
+        self.tested.lend_output(length);
+        self.second.lend_output(length);
+        let tested = (self.model)(&mut self.tested, call, &image);
+        let outcome = second::apply(&mut self.second, call, &image);
+        compare(&tested, &outcome, &self.tested, &self.second)?;
+        if let (Call::Save(number), 0, Some(count)) = (call, outcome.refusal, outcome.count) {
+            let image = self.second.out[..count].to_vec();
+            self.images.insert(*number, image);
+        }
+        Ok(Made {
+            call,
+            room,
+            outcome,
+            out: &self.second.out,
+            card: &self.second.card,
+        })
+    }
+
+    /// The image of a restore; empty for other calls.
+    pub fn image_of(&self, call: &Call) -> Vec<u8> {
+        match call {
+            Call::Restore(Image::Bytes(bytes)) => bytes.clone(),
+            Call::Restore(Image::Kept(number, damage)) => damaged(self.image(*number), damage),
+            _ => Vec::new(),
+        }
+    }
+
+    /// The length of the output to lend.
+    pub fn output_length(&self, call: &Call, room: Room, image: &[u8]) -> usize {
+        if !call.has_output() {
+            return 0;
+        }
+        match room {
+            Room::Bytes(length) => length,
+            Room::Exact => self.needed(call, image),
+            Room::Short => self.needed(call, image).saturating_sub(1),
+        }
+    }
+
+    /// The bytes that the call writes, by the second model.
+    fn needed(&self, call: &Call, image: &[u8]) -> usize {
+        let mut copy = self.second.clone();
+        copy.lend_output(ROOM);
+        second::apply(&mut copy, call, image).count.unwrap_or(0)
+    }
+}
+
+/// Makes a step that is no call.
+fn make_change(world: &mut World, step: &Step) {
+    match step {
+        Step::Call(..) => {}
+        Step::Length(part, length) => world.part_mut(*part).resize(*length, 0xAA),
+        Step::Byte(part, at, value) => {
+            if let Some(byte) = world.part_mut(*part).get_mut(*at) {
+                *byte = *value;
+            }
+        }
+        Step::Contents(part, bytes) => world.part_mut(*part).clone_from(bytes),
+    }
+}
+
+/// The image with its damage.
+fn damaged(image: &[u8], damage: &[Damage]) -> Vec<u8> {
+    let mut image = image.to_vec();
+    for change in damage {
+        match *change {
+            Damage::Byte(at, value) => {
+                if let Some(byte) = image.get_mut(at) {
+                    *byte = value;
+                }
+            }
+            Damage::Length(length) => image.resize(length, 0),
+        }
+    }
+    image
+}
+
+/// Compares all that both models gave and left.
+fn compare(
+    tested: &Outcome,
+    second: &Outcome,
+    tested_world: &World,
+    second_world: &World,
+) -> Result<(), Difference> {
+    if tested == second && tested_world == second_world {
+        return Ok(());
+    }
+    let mut lines = Vec::new();
+    if tested != second {
+        lines.push(format!("the proved card gave  {}", outcome_text(tested)));
+        lines.push(format!("the second model gave {}", outcome_text(second)));
+    }
+    for part in [Part::Card, Part::Table, Part::Pending] {
+        let (a, b) = (tested_world.part(part), second_world.part(part));
+        bytes_text(part.name(), a, b, part == Part::Card, &mut lines);
+    }
+    let (a, b) = (&tested_world.out, &second_world.out);
+    bytes_text("output", a, b, false, &mut lines);
+    Err(Difference(lines))
+}
+
+/// An outcome in one line.
+pub fn outcome_text(outcome: &Outcome) -> String {
+    let mut text = match outcome.refusal {
+        0 => "accepted".to_string(),
+        number => format!("refusal {number}"),
+    };
+    if let Some(answer) = outcome.answer {
+        let name = ["none", "sent", "held", "merged", "lost"];
+        let name = name.get(usize::from(answer)).unwrap_or(&"unknown");
+        text += &format!(", answer {answer} ({name})");
+    }
+    if let Some(value) = outcome.value {
+        text += &format!(", value {value:X}h");
+    }
+    if let Some(count) = outcome.count {
+        text += &format!(", count {count}");
+    }
+    text
+}
+
+/// Lists the first bytes in which two parts differ.
+fn bytes_text(name: &str, tested: &[u8], second: &[u8], card: bool, lines: &mut Vec<String>) {
+    let places = (0..tested.len()).filter(|&at| tested[at] != second[at]);
+    let count = places.clone().count();
+    for at in places.take(8) {
+        let field = if card {
+            format!(" ({})", card_byte_name(at))
+        } else {
+            String::new()
+        };
+        lines.push(format!(
+            "{name} byte {at}{field}: proved {:02X}, second {:02X}",
+            tested[at], second[at]
+        ));
+    }
+    if count > 8 {
+        lines.push(format!("{name}: {} more bytes differ", count - 8));
+    }
+}

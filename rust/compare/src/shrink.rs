@@ -1,0 +1,256 @@
+//! Cuts a failing trial down to a short one that still fails.
+
+use crate::call::{Call, Image, Room, Step};
+use crate::pair::{Difference, Model, Pair};
+use crate::world::Part;
+use std::time::{Duration, Instant};
+
+/// How long to look for a shorter trial, and then for simpler bytes.
+const LIMIT: Duration = Duration::from_secs(20);
+
+/// A trial that shows a difference in its last step.
+#[derive(Clone, Debug, PartialEq, Eq)]
+pub struct Failing {
+    pub steps: Vec<Step>,
+    pub difference: Difference,
+}
+
+/// The steps up to the first difference; `None` if there is none.
+fn failing(model: Model<'_>, steps: &[Step]) -> Option<Failing> {
+    let mut pair = Pair::new(model);
+    for (i, step) in steps.iter().enumerate() {
+        if let Err(difference) = pair.step(step) {
+            let steps = steps[..=i].to_vec();
+            return Some(Failing { steps, difference });
+        }
+    }
+    None
+}
+
+/// The shortest trial found, in which no step can be left out unless the time
+/// ran out. `None` if the difference does not come again.
+pub fn shrink(model: Model<'_>, steps: &[Step]) -> Option<Failing> {
+    let mut search = Search::new(model, failing(model, steps)?);
+    loop {
+        let before = search.found.steps.clone();
+        search.leave_out();
+        search.simplify();
+        if search.found.steps == before || search.is_over() {
+            return Some(search.found);
+        }
+    }
+}
+
+/// The last call of a failing trial by itself, on the bytes as they stood
+/// before it. `None` if the difference does not come again.
+pub fn alone(model: Model<'_>, steps: &[Step]) -> Option<Failing> {
+    let mut pair = Pair::new(model);
+    let (last, earlier) = steps.split_last()?;
+    for step in earlier {
+        pair.step(step).ok()?;
+    }
+    let Step::Call(call, room) = last else {
+        return None;
+    };
+    let image = pair.image_of(call);
+    let length = pair.output_length(call, *room, &image);
+    let mut parts = vec![Part::Card, Part::Table, Part::Pending];
+    parts.retain(|&part| !pair.world().part(part).is_empty());
+    let mut steps: Vec<Step> = parts
+        .into_iter()
+        .map(|part| Step::Contents(part, pair.world().part(part).clone()))
+        .collect();
+    let call = match call {
+        Call::Restore(_) => Call::Restore(Image::Bytes(image)),
+        other => other.clone(),
+    };
+    steps.push(Step::Call(call, Room::Bytes(length)));
+    let mut search = Search::new(model, failing(model, &steps)?);
+    search.simplify();
+    Some(search.found)
+}
+
+/// A search for a shorter or simpler trial.
+struct Search<'a> {
+    model: Model<'a>,
+    found: Failing,
+    begun: Instant,
+}
+
+impl<'a> Search<'a> {
+    fn new(model: Model<'a>, found: Failing) -> Search<'a> {
+        Search {
+            model,
+            found,
+            begun: Instant::now(),
+        }
+    }
+
+    fn is_over(&self) -> bool {
+        self.begun.elapsed() > LIMIT
+    }
+
+    /// Takes these steps if they fail too.
+    fn take_if_failing(&mut self, steps: &[Step]) -> bool {
+        match failing(self.model, steps) {
+            Some(found) => {
+                self.found = found;
+                true
+            }
+            None => false,
+        }
+    }
+
+    /// Leaves out runs of steps, long ones first, then single ones until none
+    /// can be left out.
+    fn leave_out(&mut self) {
+        let mut run = self.found.steps.len().div_ceil(2);
+        loop {
+            let left_out = self.leave_out_runs(run);
+            if run == 1 && !left_out || self.is_over() {
+                return;
+            }
+            run = run.div_ceil(2).min(self.found.steps.len()).max(1);
+        }
+    }
+
+    /// Leaves out each run of this length that is not needed, from the end,
+    /// since later steps often depend on earlier ones.
+    fn leave_out_runs(&mut self, run: usize) -> bool {
+        let mut left_out = false;
+        let mut end = self.found.steps.len();
+        while end > 0 && !self.is_over() {
+            let start = end.saturating_sub(run);
+            let steps = &self.found.steps;
+            let rest = [&steps[..start], &steps[end..]].concat();
+            left_out |= self.take_if_failing(&rest);
+            end = start.min(self.found.steps.len());
+        }
+        left_out
+    }
+
+    /// Clears bytes and bits in the arguments of the steps.
+    fn simplify(&mut self) {
+        let mut at = 0;
+        while at < self.found.steps.len() {
+            self.clear_bytes(at);
+            self.take_simpler(at);
+            at += 1;
+        }
+    }
+
+    /// Sets stretches of a step's bytes to 0, long stretches first.
+    fn clear_bytes(&mut self, at: usize) {
+        let length = bytes_of(&mut self.found.steps[at].clone()).map_or(0, |bytes| bytes.len());
+        let mut stretch = length.next_power_of_two();
+        while stretch > 0 {
+            for start in (0..length).step_by(stretch) {
+                let end = (start + stretch).min(length);
+                if self.is_over() {
+                    return;
+                }
+                self.clear_stretch(at, start, end);
+            }
+            stretch /= 2;
+        }
+    }
+
+    fn clear_stretch(&mut self, at: usize, start: usize, end: usize) {
+        let mut steps = self.found.steps.clone();
+        let Some(bytes) = steps.get_mut(at).and_then(bytes_of) else {
+            return;
+        };
+        if bytes[start..end].iter().any(|&byte| byte != 0) {
+            bytes[start..end].fill(0);
+            self.take_if_failing(&steps);
+        }
+    }
+
+    /// Takes simpler steps for the one at a place until none is left.
+    fn take_simpler(&mut self, at: usize) {
+        while at < self.found.steps.len() && !self.is_over() {
+            let simpler = simpler(&self.found.steps[at]);
+            let taken = simpler.into_iter().any(|step| {
+                let mut steps = self.found.steps.clone();
+                steps[at] = step;
+                self.take_if_failing(&steps)
+            });
+            if !taken {
+                return;
+            }
+        }
+    }
+}
+
+/// The bytes in a step, if it has some.
+fn bytes_of(step: &mut Step) -> Option<&mut Vec<u8>> {
+    match step {
+        Step::Contents(_, bytes) | Step::Call(Call::Restore(Image::Bytes(bytes)), _) => Some(bytes),
+        Step::Call(Call::Start(given), _) => Some(&mut given.config),
+        _ => None,
+    }
+}
+
+/// Steps that are like this one, but with smaller numbers.
+fn simpler(step: &Step) -> Vec<Step> {
+    match step {
+        Step::Call(call, room) => simpler_calls(call)
+            .into_iter()
+            .map(|call| Step::Call(call, *room))
+            .collect(),
+        _ => Vec::new(),
+    }
+}
+
+fn simpler_calls(call: &Call) -> Vec<Call> {
+    match call {
+        Call::Start(given) => (0..given.sizes.len())
+            .filter(|&bar| given.sizes[bar] != 0)
+            .map(|bar| {
+                let mut given = given.clone();
+                given.sizes[bar] = 0;
+                Call::Start(given)
+            })
+            .collect(),
+        &Call::ConfigWrite {
+            offset,
+            width,
+            value,
+        } => simpler_numbers(u64::from(value))
+            .map(|value| Call::ConfigWrite {
+                offset,
+                width,
+                value: value as u32,
+            })
+            .collect(),
+        &Call::BarWrite {
+            bar,
+            offset,
+            width,
+            value,
+        } => simpler_numbers(value)
+            .map(|value| Call::BarWrite {
+                bar,
+                offset,
+                width,
+                value,
+            })
+            .collect(),
+        Call::Restore(Image::Kept(number, damage)) => (0..damage.len())
+            .map(|at| {
+                let mut damage = damage.clone();
+                damage.remove(at);
+                Call::Restore(Image::Kept(*number, damage))
+            })
+            .collect(),
+        _ => Vec::new(),
+    }
+}
+
+/// 0, and the number with one set bit cleared.
+fn simpler_numbers(number: u64) -> impl Iterator<Item = u64> {
+    let bits = (0..64).map(move |bit| number & !(1 << bit));
+    std::iter::once(0)
+        .chain(bits)
+        .filter(move |&simpler| simpler != number)
+}

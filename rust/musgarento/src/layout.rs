@@ -1,0 +1,100 @@
+//! Lengths, and how many vectors a configuration has.
+//!
+//! These only size the buffers to lend. The proved code works the lengths out
+//! for itself and refuses others.
+
+/// The bytes of a card in the C interface.
+pub const CARD_BYTES: usize = 289;
+
+/// The most bytes of packets that one call makes.
+pub const PACKET_BYTES: usize = 40_976;
+
+/// The length of the longest image.
+pub const IMAGE_BYTES: usize = 33_318;
+
+/// The bytes of an image without the table and the pending array.
+pub const FIXED_BYTES: usize = 294;
+
+/// Where the configuration bytes stand in an image.
+const CONFIG_AT: usize = 38;
+
+/// Capability ID of MSI-X.
+const MSIX_ID: u8 = 0x11;
+
+/// The most capabilities of a list.
+const MOST: usize = 48;
+
+/// N: MSI-X Table Size + 1, or 0 with no MSI-X. Of a configuration that a
+/// start refuses it is any number.
+pub fn vectors(config: &[u8; 256]) -> usize {
+    if config[0x06] & 0x10 == 0 {
+        return 0;
+    }
+    let mut at = usize::from(config[0x34] & 0xFC);
+    for _ in 0..MOST {
+        if at < 0x40 {
+            break;
+        }
+        if config[at] == MSIX_ID {
+            let control = u16::from_le_bytes([config[at + 2], config[at + 3]]);
+            return usize::from(control & 0x7FF) + 1;
+        }
+        at = usize::from(config[at + 1] & 0xFC);
+    }
+    0
+}
+
+/// The vectors of an image's card; 0 if the image is too short to tell.
+pub fn image_vectors(image: &[u8]) -> usize {
+    image
+        .get(CONFIG_AT..FIXED_BYTES)
+        .and_then(|bytes| bytes.try_into().ok())
+        .map_or(0, vectors)
+}
+
+/// The length of a table of `vectors` entries.
+pub fn table_bytes(vectors: usize) -> usize {
+    16 * vectors
+}
+
+/// The length of a pending array of `vectors` bits.
+pub fn pending_bytes(vectors: usize) -> usize {
+    8 * vectors.div_ceil(64)
+}
+
+#[cfg(test)]
+mod tests {
+    use super::*;
+
+    #[test]
+    fn vectors_of_a_list() {
+        let mut config = [0; 256];
+        config[0x34] = 0x43;
+        config[0x40..0x42].copy_from_slice(&[0x01, 0xFC]);
+        config[0xFC..].copy_from_slice(&[0x11, 0x00, 0xFF, 0xC7]);
+        assert_eq!(vectors(&config), 0);
+        config[0x06] = 0x10;
+        assert_eq!(vectors(&config), 2048);
+        config[0xFC] = 0x10;
+        assert_eq!(vectors(&config), 0);
+    }
+
+    #[test]
+    fn vectors_of_broken_lists() {
+        let mut config = [0; 256];
+        config[0x06] = 0x10;
+        config[0x34] = 0x3C;
+        assert_eq!(vectors(&config), 0);
+        config[0x34] = 0x40;
+        config[0x41] = 0x40;
+        assert_eq!(vectors(&config), 0);
+    }
+
+    #[test]
+    fn longest() {
+        let buffers = table_bytes(2048) + pending_bytes(2048);
+        assert_eq!(FIXED_BYTES + buffers, IMAGE_BYTES);
+        assert_eq!(pending_bytes(65), 16);
+        assert_eq!(pending_bytes(0), 0);
+    }
+}

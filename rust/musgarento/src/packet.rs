@@ -1,0 +1,213 @@
+//! The packets that a card sends.
+
+use std::fmt;
+use std::iter::FusedIterator;
+
+/// A packet.
+#[derive(Clone, Copy, Debug, PartialEq, Eq, Hash)]
+pub enum Packet {
+    /// An MSI or MSI-X message: a memory write of one word.
+    Message {
+        /// The requester ID.
+        requester: u16,
+        /// The address, with the upper address in its high half.
+        address: u64,
+        /// The data.
+        data: u32,
+    },
+    /// The wire of a pin becomes active.
+    Assert {
+        /// The requester ID.
+        requester: u16,
+        /// The pin, 1 to 4.
+        pin: u8,
+    },
+    /// The wire of a pin becomes inactive.
+    Deassert {
+        /// The requester ID.
+        requester: u16,
+        /// The pin, 1 to 4.
+        pin: u8,
+    },
+}
+
+impl Packet {
+    /// Reads the packet at the start of `bytes`, and gives the bytes behind
+    /// it too; `None` if no packet stands there.
+    pub fn read(bytes: &[u8]) -> Option<(Packet, &[u8])> {
+        match bytes {
+            [0x40, 0, 0, 1, a, b, 0, 0x0F, rest @ ..] => {
+                let (low, rest) = word(rest)?;
+                message([*a, *b], 0, low, rest)
+            }
+            [0x60, 0, 0, 1, a, b, 0, 0x0F, rest @ ..] => {
+                let (high, rest) = word(rest)?;
+                let (low, rest) = word(rest)?;
+                // An address below 4 GiB has the short form.
+                if high == [0; 4] {
+                    return None;
+                }
+                message([*a, *b], u32::from_be_bytes(high), low, rest)
+            }
+            [0x34, 0, 0, 0, a, b, 0, code, 0, 0, 0, 0, 0, 0, 0, 0, rest @ ..] => {
+                let requester = u16::from_be_bytes([*a, *b]);
+                Some((wire(requester, *code)?, rest))
+            }
+            _ => None,
+        }
+    }
+
+    /// The requester ID.
+    pub fn requester(&self) -> u16 {
+        match *self {
+            Packet::Message { requester, .. }
+            | Packet::Assert { requester, .. }
+            | Packet::Deassert { requester, .. } => requester,
+        }
+    }
+}
+
+/// The first four bytes, and those behind them.
+fn word(bytes: &[u8]) -> Option<([u8; 4], &[u8])> {
+    let (word, rest) = bytes.split_first_chunk::<4>()?;
+    Some((*word, rest))
+}
+
+/// A message whose data stands at the start of `rest`.
+fn message(requester: [u8; 2], high: u32, low: [u8; 4], rest: &[u8]) -> Option<(Packet, &[u8])> {
+    let (data, rest) = word(rest)?;
+    let packet = Packet::Message {
+        requester: u16::from_be_bytes(requester),
+        address: u64::from(high) << 32 | u64::from(u32::from_be_bytes(low)),
+        data: u32::from_le_bytes(data),
+    };
+    Some((packet, rest))
+}
+
+/// The wire packet with this code.
+fn wire(requester: u16, code: u8) -> Option<Packet> {
+    match code {
+        0x20..=0x23 => Some(Packet::Assert {
+            requester,
+            pin: code - 0x1F,
+        }),
+        0x24..=0x27 => Some(Packet::Deassert {
+            requester,
+            pin: code - 0x23,
+        }),
+        _ => None,
+    }
+}
+
+impl fmt::Display for Packet {
+    fn fmt(&self, f: &mut fmt::Formatter<'_>) -> fmt::Result {
+        let from = self.requester();
+        let (bus, device, function) = (from >> 8, from >> 3 & 0x1F, from & 7);
+        let pin_name = |pin: u8| char::from(b'A' + pin - 1);
+        match *self {
+            Packet::Message { address, data, .. } => {
+                write!(f, "message of data {data:08X}h to address {address:016X}h")?
+            }
+            Packet::Assert { pin, .. } => write!(f, "Assert_INT{}", pin_name(pin))?,
+            Packet::Deassert { pin, .. } => write!(f, "Deassert_INT{}", pin_name(pin))?,
+        }
+        write!(f, ", from {bus:02X}:{device:02X}.{function}")
+    }
+}
+
+/// The packets that stand one after another in some bytes.
+///
+/// The iterator ends at the first bytes that are no packet; in a card's output
+/// that is its end.
+#[derive(Clone, Debug)]
+pub struct Packets<'a> {
+    bytes: &'a [u8],
+}
+
+impl<'a> Packets<'a> {
+    /// The packets in these bytes.
+    pub fn new(bytes: &'a [u8]) -> Packets<'a> {
+        Packets { bytes }
+    }
+
+    /// The bytes of the packets that are still to come.
+    pub fn bytes(&self) -> &'a [u8] {
+        self.bytes
+    }
+}
+
+impl Iterator for Packets<'_> {
+    type Item = Packet;
+
+    fn next(&mut self) -> Option<Packet> {
+        let (packet, rest) = Packet::read(self.bytes)?;
+        self.bytes = rest;
+        Some(packet)
+    }
+}
+
+impl FusedIterator for Packets<'_> {}
+
+#[cfg(test)]
+mod tests {
+    use super::{Packet, Packets};
+
+    const SHORT: [u8; 16] = [
+        0x40, 0, 0, 1, 1, 0, 0, 0x0F, 0xFE, 0xE0, 0, 0, 0xA1, 0x49, 0, 0,
+    ];
+    const LONG: [u8; 20] = [
+        0x60, 0, 0, 1, 1, 0, 0, 0x0F, 0, 0, 0, 1, 0xFE, 0xE0, 0x10, 0, 0x31, 0, 0, 0,
+    ];
+    const WIRE: [u8; 16] = [0x34, 0, 0, 0, 1, 8, 0, 0x27, 0, 0, 0, 0, 0, 0, 0, 0];
+
+    #[test]
+    fn packets_one_after_another() {
+        let bytes = [&WIRE[..], &SHORT, &LONG].concat();
+        let packets: Vec<Packet> = Packets::new(&bytes).collect();
+        let message = |address, data| Packet::Message {
+            requester: 0x0100,
+            address,
+            data,
+        };
+        let deassert = Packet::Deassert {
+            requester: 0x0108,
+            pin: 4,
+        };
+        let expected = [
+            deassert,
+            message(0xFEE0_0000, 0x49A1),
+            message(0x1_FEE0_1000, 0x31),
+        ];
+        assert_eq!(packets, expected);
+    }
+
+    #[test]
+    fn what_is_no_packet() {
+        for packet in [&SHORT[..], &LONG, &WIRE] {
+            assert!(Packet::read(packet).is_some());
+            assert!(Packet::read(&packet[..packet.len() - 1]).is_none());
+        }
+        let changed = |packet: &[u8], at: usize, value: u8| {
+            let mut bytes = packet.to_vec();
+            bytes[at] = value;
+            Packet::read(&bytes).is_some()
+        };
+        assert!(!changed(&SHORT, 3, 2));
+        assert!(!changed(&SHORT, 7, 0xFF));
+        assert!(!changed(&LONG, 11, 0));
+        assert!(!changed(&WIRE, 7, 0x1F));
+        assert!(!changed(&WIRE, 7, 0x28));
+        assert!(!changed(&WIRE, 15, 1));
+        assert!(Packet::read(&[]).is_none());
+    }
+
+    #[test]
+    fn text() {
+        let text = |bytes: &[u8]| Packet::read(bytes).unwrap().0.to_string();
+        assert_eq!(text(&WIRE), "Deassert_INTD, from 01:01.0");
+        assert_eq!(
+            text(&LONG),
+            "message of data 00000031h to address 00000001FEE01000h, from 01:00.0"
+        );
+    }
+}

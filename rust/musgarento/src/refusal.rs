@@ -1,0 +1,95 @@
+//! The refusals.
+
+use std::error::Error;
+use std::fmt;
+
+/// Defines the refusals with their numbers and texts.
+macro_rules! refusals {
+    ($($name:ident = $number:literal, $text:literal;)*) => {
+        /// Why a call was refused. A refused call changes nothing.
+        #[derive(Clone, Copy, Debug, PartialEq, Eq, Hash)]
+        #[repr(u8)]
+        pub enum Refusal {
+            $(#[doc = concat!("No. ", $number, ": ", $text, ".")] $name = $number,)*
+        }
+
+        impl Refusal {
+            /// All refusals.
+            pub const ALL: &'static [Refusal] = &[$(Refusal::$name),*];
+
+            /// The words of the rule that the refusal goes by.
+            pub fn text(self) -> &'static str {
+                match self {
+                    $(Refusal::$name => $text,)*
+                }
+            }
+        }
+    };
+}
+
+refusals! {
+    NotSound = 1, "card not sound";
+    Event = 2, "event number E or more";
+    ConfigAccess = 3, "configuration width not 1, 2, 4, offset not a multiple of it, or above 255";
+    BarAccess = 4, "BAR above 5, width not 4 or 8, offset not a multiple, or outside table and pending array";
+    MemorySpace = 5, "BAR access with Command bit 1 clear";
+    Room = 6, "output shorter than this call's packets or image";
+    Header = 10, "byte 0Eh low seven bits not 0, or pin (3Dh) above 4";
+    List = 11, "list broken";
+    Twice = 12, "ID 05h or 11h listed twice";
+    Structure = 13, "Multiple Message Capable above 5; or a structure runs past byte FFh, overlaps the other one, or has another listed header's first two bytes inside it";
+    Region = 14, "a BIR above 5; table (16N bytes) or pending array past its BAR's size; or the two overlapping in one BAR";
+    Events = 15, "E not 1 to 2,048, or MSI-X present and N not E";
+    Requester = 16, "requester's low three bits not 0";
+    Buffers = 17, "table buffer not 16N bytes, or pending buffer not 8 x (N/64 rounded up) bytes";
+    Mark = 20, "image under 294 bytes or wrong mark";
+    Version = 21, "version not 1";
+    Image = 22, "any other image that no sound card saves";
+    Lengths = 60, "card, configuration or sizes of another length than 289, 256 and 6, or a card with other flags than line and wire";
+}
+
+impl Refusal {
+    /// The number of the refusal.
+    pub fn number(self) -> u8 {
+        self as u8
+    }
+
+    /// The refusal with this number.
+    pub fn from_number(number: u8) -> Option<Refusal> {
+        let mut all = Refusal::ALL.iter().copied();
+        all.find(|refusal| refusal.number() == number)
+    }
+}
+
+impl fmt::Display for Refusal {
+    fn fmt(&self, f: &mut fmt::Formatter<'_>) -> fmt::Result {
+        write!(f, "refused with {}: {}", self.number(), self.text())
+    }
+}
+
+impl Error for Refusal {}
+
+#[cfg(test)]
+mod tests {
+    use super::Refusal;
+
+    #[test]
+    fn numbers_go_there_and_back() {
+        for &refusal in Refusal::ALL {
+            assert_eq!(Refusal::from_number(refusal.number()), Some(refusal));
+        }
+        let numbers: Vec<u8> = (0..=255)
+            .filter(|&number| Refusal::from_number(number).is_some())
+            .collect();
+        assert_eq!(
+            numbers,
+            [1, 2, 3, 4, 5, 6, 10, 11, 12, 13, 14, 15, 16, 17, 20, 21, 22, 60]
+        );
+    }
+
+    #[test]
+    fn text() {
+        let text = Refusal::Version.to_string();
+        assert_eq!(text, "refused with 21: version not 1");
+    }
+}
