@@ -1,0 +1,3 @@
+pub mod MarkLaws
+pub mod FillLaws
+pub mod CardLaws
