@@ -1,3 +1,4 @@
 pub mod MarkLaws
 pub mod FillLaws
 pub mod CardLaws
+pub mod Writing
