@@ -2,3 +2,4 @@ pub mod MarkLaws
 pub mod FillLaws
 pub mod CardLaws
 pub mod Writing
+pub mod CardBack
