@@ -7,17 +7,19 @@ use native.Mathlib.Omega.{arith}
 use lib.ListN.{length, drop, set, length-drop, drop-of-length-le}
 use lib.Seq.{length-take-le, drop-cons, getD-drop, getD-take}
 use Rattle.words.specs.Bytes.{byte, part, word32, words32}
-use Rattle.words.specs.Writers.{putAt}
+use Rattle.words.specs.Writers.{over, putAt}
 use Rattle.words.proofs.ByteLaws.{number-shift}
 use Rattle.words.proofs.PutLaws.{put-next, put-end}
 
 abbrev pub Filled : (w : List ℕ) (i : ℕ) (a : List ℕ) → Type 0
 Filled w i a = (length a ≡ length w) × (putAt i (drop i w) a ≡ w)
 
+-- all of a is written over
+pub over-all : (w a : List ℕ) → length a ≤ length w → over w a ≡ w
+over-all w a h = rw (drop-of-length-le a h, append-nil)
+
 pub fill-start : (w a : List ℕ) → length a ≡ length w → Filled w 0 a
-fill-start w a h =
-    let n : length a ≤ length w = omega arith in
-    (h, rw (drop-of-length-le a n, append-nil))
+fill-start w a h = (h, over-all w a (omega arith))
 
 pub fill-next : (w a : List ℕ) (i x : ℕ) → i < length w → x ≡ byte w i → Filled w i a → length (set a i x) ≡ length a → Filled w (i + 1) (set a i x)
 fill-next w a i x h e f k =
