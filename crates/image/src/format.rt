@@ -15,7 +15,7 @@ impl Image {
 
     pub const VERSION: u16 = 1;
 
-    // The offsets of the fields.
+    // The offset of each field.
     pub const VERSION_AT: usize = 3;
 
     pub const FLAGS: usize = 5;
@@ -29,12 +29,14 @@ impl Image {
     pub const SIZES: usize = 14;
 
     pub const CONFIG: usize = 38;
-    // The table's, and the length of the fixed part.
+
+    // The fixed part has this length, too.
     pub const TABLE: usize = 294;
 
-    // The bytes from the flags to the sizes, and to the last configuration byte.
+    // How many bytes there are from the flags to the sizes.
     pub const NUMBERS: usize = Self::SIZES - Self::FLAGS;
 
+    // How many bytes a card has: from the flags to the last configuration byte.
     pub const CARD: usize = Self::TABLE - Self::FLAGS;
 
     pub fn new(table: usize, pending: usize) -> Self
