@@ -1,0 +1,84 @@
+-- Each buffer is written over whole by the part of the image that is as long. Assumes nothing.
+use denote.Ref.{now}
+use mathlib.Core.Path.{_≡_, sym, _∙_}
+use mathlib.Core.List.{List}
+use Prim.Native.Nat.{ℕ, _+_, _-_, _≤_}
+use native.Mathlib.Omega.{arith}
+use lib.ListN.{length, take, drop, length-drop}
+use lib.Seq.{length-take-le, take-all, drop-drop}
+use Rattle.words.specs.Writers.{over}
+use Rattle.image.proofs.FillLaws.{over-all}
+use borrow.Author.Needs.{needs}
+use Rattle.image.proofs.buffers.copy_buffers.Statement.{statement}
+use Rattle.image.proofs.buffers.copy_buffers.Tie as tie
+
+-- the bytes of l from place a on, over a buffer t that they fill
+copied : (l t : List ℕ) (a m : ℕ) → a + length t ≤ length l → m ≡ length t → over (take m (drop a l)) t ≡ take (length t) (drop a l)
+copied l t a m h e =
+    let n : length t ≤ length (drop a l) = rw length-drop (omega arith) in
+    rw e (over-all (take (length t) (drop a l)) t (omega (arith, length-take-le (length t) (drop a l) n)))
+
+rest : (l p : List ℕ) (n : ℕ) → length l ≡ 294 + n + length p → take (length p) (drop (294 + n) l) ≡ drop n (drop 294 l)
+rest l p n h =
+    let k : length (drop (294 + n) l) ≤ length p = rw length-drop (omega arith) in
+    take-all (length p) (drop (294 + n) l) k ∙ sym (drop-drop n 294 l)
+
+add-middle : tie.Need-add-middle
+add-middle c = search needs
+
+sub-put-slice : tie.Need-sub-put-slice
+sub-put-slice c = search needs
+
+part-put-slice-start : tie.Need-part-put-slice-start
+part-put-slice-start c = search needs
+
+part-put-slice-end : tie.Need-part-put-slice-end
+part-put-slice-end c = search needs
+
+put-slice-requires : tie.Need-put-slice-requires
+put-slice-requires c κs = search needs
+
+sub-put-slice-2 : tie.Need-sub-put-slice-2
+sub-put-slice-2 c = search needs
+
+part-put-slice-start-2 : tie.Need-part-put-slice-start-2
+part-put-slice-start-2 c = search needs
+
+part-put-slice-end-2 : tie.Need-part-put-slice-end-2
+part-put-slice-end-2 c = search needs
+
+put-slice-requires-2 : tie.Need-put-slice-requires-2
+put-slice-requires-2 c κs = search needs
+
+same-length : tie.Need-same-length
+same-length c = search needs
+
+same-length-2 : tie.Need-same-length-2
+same-length-2 c = search needs
+
+returns : tie.Need-returns
+returns c =
+    let s = c .before .before .before .before .before .before .before .before .before .before .before .before .before in
+    let l = now (s .args .image) in
+    let t = now (s .args .table) in
+    let p = now (s .args .pending) in (
+      c .before .before .before .before .before .before .before .put-slice .ensures .bytes ∙ copied l t 294 (294 + length t - 294) (omega (arith, s .pre)) (omega arith),
+      c .before .before .put-slice2 .ensures .bytes ∙ copied l p (294 + length t) (length l - (294 + length t)) (omega (arith, s .pre)) (omega (arith, s .pre)) ∙ rest l p (length t) (s .pre),
+    )
+
+pub copy-buffers-spec : {M : Type 1} → statement M
+copy-buffers-spec =
+    tie.close
+    (tie.spec
+    add-middle
+    sub-put-slice
+    part-put-slice-start
+    part-put-slice-end
+    put-slice-requires
+    sub-put-slice-2
+    part-put-slice-start-2
+    part-put-slice-end-2
+    put-slice-requires-2
+    same-length
+    same-length-2
+    returns)

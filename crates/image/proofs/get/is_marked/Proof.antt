@@ -1,0 +1,51 @@
+-- One law for each way out. Assumes nothing.
+use denote.Ref.{now}
+use Rattle.image.proofs.MarkLaws.{short, first, second, third}
+use borrow.Author.Needs.{needs}
+use Rattle.image.proofs.get.is_marked.Statement.{statement}
+use Rattle.image.proofs.get.is_marked.Tie as tie
+
+returns : tie.Need-returns
+returns c = short (now (c .before .args .image)) (c .if1 .taken)
+
+shared-slice-read-if2 : tie.Need-shared-slice-read-if2
+shared-slice-read-if2 c = search needs
+
+array-read-if2 : tie.Need-array-read-if2
+array-read-if2 c = search needs
+
+returns-2 : tie.Need-returns-2
+returns-2 c = first (now (c .before .before .before .args .image)) (c .before .before .if1 .left) (c .if2 .taken)
+
+shared-slice-read-if3 : tie.Need-shared-slice-read-if3
+shared-slice-read-if3 c = search needs
+
+array-read-if3 : tie.Need-array-read-if3
+array-read-if3 c = search needs
+
+returns-3 : tie.Need-returns-3
+returns-3 c = second (now (c .before .before .before .before .before .args .image)) (c .before .before .before .before .if1 .left) (c .before .before .if2 .left) (c .if3 .taken)
+
+shared-slice-read-result : tie.Need-shared-slice-read-result
+shared-slice-read-result c = search needs
+
+array-read-result : tie.Need-array-read-result
+array-read-result c = search needs
+
+returns-4 : tie.Need-returns-4
+returns-4 c = third (now (c .before .before .before .before .before .before .args .image)) (c .before .before .before .before .before .if1 .left) (c .before .before .before .if2 .left) (c .before .if3 .left)
+
+pub is-marked-spec : {M : Type 1} → statement M
+is-marked-spec =
+    tie.close
+    (tie.spec
+    returns
+    shared-slice-read-if2
+    array-read-if2
+    returns-2
+    shared-slice-read-if3
+    array-read-if3
+    returns-3
+    shared-slice-read-result
+    array-read-result
+    returns-4)

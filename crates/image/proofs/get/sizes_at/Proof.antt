@@ -1,0 +1,76 @@
+-- The sizes from place i on are still to be stored. Assumes nothing.
+use denote.Ref.{now}
+use mathlib.Core.Path.{_≡_, sym, _∙_}
+use Prim.Native.Nat.{_-_, _≤_}
+use native.Mathlib.Omega.{arith}
+use lib.ListN.{length, drop, length-set}
+use Rattle.words.specs.Bytes.{words32}
+use Rattle.image.proofs.FillLaws.{Filled, fill-start, fill-next, fill-end, word-drop, length-words, byte-words}
+use borrow.Author.Needs.{needs}
+use Rattle.image.proofs.get.sizes_at.Statement.{statement}
+use Rattle.image.proofs.get.sizes_at.Tie as tie
+
+abbrev Inv-loop : tie.InvT-loop
+Inv-loop s at sizes₀ i₀ sizes i = (i ≤ 6) × (length (words32 6 (drop at s)) ≡ 6) × Filled (words32 6 (drop at s)) i sizes
+
+abbrev μ-loop : tie.MeasureT-loop
+μ-loop s at sizes₀ i₀ sizes i = 6 - i
+
+loop-holds : tie.Need-loop-holds Inv-loop μ-loop
+loop-holds c =
+    let a = c .before .args in
+    let n = length-words 6 (drop (a .at) (now (a .s))) in
+    (omega arith, n, fill-start _ _ (sym n))
+
+mul-word32 : tie.Need-mul-word32 Inv-loop μ-loop
+mul-word32 c = search needs
+
+add-word32 : tie.Need-add-word32 Inv-loop μ-loop
+add-word32 c = search needs
+
+word32-requires : tie.Need-word32-requires Inv-loop μ-loop
+word32-requires c κs = search needs
+
+mul-sizes : tie.Need-mul-sizes Inv-loop μ-loop
+mul-sizes c = search needs
+
+array-write-sizes : tie.Need-array-write-sizes Inv-loop μ-loop
+array-write-sizes c = search needs
+
+add-i : tie.Need-add-i Inv-loop μ-loop
+add-i c = search needs
+
+loop-less : tie.Need-loop-less Inv-loop μ-loop
+loop-less c = search needs
+
+loop-again : tie.Need-loop-again Inv-loop μ-loop
+loop-again c =
+    let v = c .before .before .loop in
+    let a = c .before .before .before .before .args in
+    let s = now (a .s) in
+    let w = words32 6 (drop (a .at) s) in
+    let e = c .word32 .ensures ∙ sym (byte-words 6 (drop (a .at) s) (v .i) (omega arith) ∙ word-drop s (a .at) _) in
+    (omega arith, v .inv .1, fill-next w (v .sizes) (v .i) _ (omega arith) e (v .inv .2) (simp length-set))
+
+returns : tie.Need-returns Inv-loop μ-loop
+returns c =
+    let v = c .before .loop in
+    let a = c .before .before .before .args in
+    fill-end (words32 6 (drop (a .at) (now (a .s)))) (v .sizes) (v .i) (omega (arith, v .inv .1)) (v .inv .2)
+
+pub sizes-at-spec : {M : Type 1} → statement M
+sizes-at-spec =
+    tie.close
+    (tie.spec
+    Inv-loop
+    μ-loop
+    loop-holds
+    mul-word32
+    add-word32
+    word32-requires
+    mul-sizes
+    array-write-sizes
+    add-i
+    loop-less
+    loop-again
+    returns)

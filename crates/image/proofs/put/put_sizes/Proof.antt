@@ -1,0 +1,103 @@
+-- The bytes of the sizes from place i on are still to be written. Assumes nothing.
+use mathlib.Core.Path.{_≡_, refl, _∙_}
+use Prim.Native.Nat.{_*_, _-_, _≤_}
+use native.Mathlib.Omega.{arith}
+use lib.ListN.{length, drop, length-take, length-drop}
+use Rattle.words.specs.Lists.{join}
+use Rattle.words.specs.Bytes.{byte, bytesOf}
+use Rattle.words.specs.Writers.{putAt, over}
+use Rattle.words.proofs.ByteLaws.{length-bytesOf, length-join32}
+use Rattle.image.proofs.Writing.{join-next, join-end}
+use borrow.Author.Needs.{needs}
+use Rattle.image.proofs.put.put_sizes.Statement.{statement}
+use Rattle.image.proofs.put.put_sizes.Tie as tie
+
+abbrev Inv-loop : tie.InvT-loop
+Inv-loop out₀ sizes at₀ i₀ out at i =
+    (i ≤ 6) × (at ≡ 4 * i) × (length out ≡ length out₀) × (putAt at (join (bytesOf 4) (drop i sizes)) out ≡ over (join (bytesOf 4) sizes) out₀)
+
+abbrev μ-loop : tie.MeasureT-loop
+μ-loop out₀ sizes at₀ i₀ out at i = 6 - i
+
+loop-holds : tie.Need-loop-holds Inv-loop μ-loop
+loop-holds c = (omega arith, refl, refl, refl)
+
+mul-size : tie.Need-mul-size Inv-loop μ-loop
+mul-size c = search needs
+
+array-read-size : tie.Need-array-read-size Inv-loop μ-loop
+array-read-size c = search needs
+
+sub-put-le : tie.Need-sub-put-le Inv-loop μ-loop
+sub-put-le c = search needs
+
+part-put-le-start : tie.Need-part-put-le-start Inv-loop μ-loop
+part-put-le-start c = search needs
+
+part-put-le-end : tie.Need-part-put-le-end Inv-loop μ-loop
+part-put-le-end c = search needs
+
+cast-put-le : tie.Need-cast-put-le Inv-loop μ-loop
+cast-put-le c = search needs
+
+put-le-requires : tie.Need-put-le-requires Inv-loop μ-loop
+put-le-requires c κs = simp (length-take, length-drop) (omega arith)
+
+add-at : tie.Need-add-at Inv-loop μ-loop
+add-at c =
+    let v = c .before .before .before .before .before .loop in
+    let sizes = c .before .before .before .before .before .before .before .args .t2 in
+    omega (arith, v .inv, c .before .before .put-le .ensures .count, length-bytesOf 4 (byte sizes (v .i)))
+
+add-i : tie.Need-add-i Inv-loop μ-loop
+add-i c = search needs
+
+loop-less : tie.Need-loop-less Inv-loop μ-loop
+loop-less c = search needs
+
+loop-again : tie.Need-loop-again Inv-loop μ-loop
+loop-again c =
+    let v = c .before .before .before .before .before .loop in
+    let sizes = c .before .before .before .before .before .before .before .args .t2 in
+    let k = c .before .before .put-le in
+    let n : length sizes ≡ 6 = search needs in
+    let m : k .result ≡ 4 = k .ensures .count ∙ length-bytesOf 4 (byte sizes (v .i)) in (
+      omega arith,
+      omega (arith, v .inv, m),
+      c .before .out .given .1 ∙ v .inv .2,
+      join-next (bytesOf 4) sizes (v .i) (v .at) (v .out) _ (v .inv .3) (k .result) (k .last .0) (omega (arith, v .inv, n)) (omega (arith, v .inv)) (k .ensures),
+    )
+
+same-length : tie.Need-same-length Inv-loop μ-loop
+same-length c = search needs
+
+returns : tie.Need-returns Inv-loop μ-loop
+returns c =
+    let v = c .before .loop in
+    let sizes = c .before .before .before .args .t2 in
+    let n : length sizes ≡ 6 = search needs in
+    record {
+      count = omega (arith, v .inv, length-join32 sizes, n);
+      bytes = join-end (bytesOf 4) sizes (v .i) (v .at) (v .out) _ (v .inv .3) (omega (arith, v .inv, n));
+    }
+
+pub put-sizes-spec : {M : Type 1} → statement M
+put-sizes-spec =
+    tie.close
+    (tie.spec
+    Inv-loop
+    μ-loop
+    loop-holds
+    mul-size
+    array-read-size
+    sub-put-le
+    part-put-le-start
+    part-put-le-end
+    cast-put-le
+    put-le-requires
+    add-at
+    add-i
+    loop-less
+    loop-again
+    same-length
+    returns)

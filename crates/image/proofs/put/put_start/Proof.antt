@@ -1,0 +1,58 @@
+-- The version behind the mark. Assumes nothing.
+use Rattle.words.specs.Bytes.{bytesOf}
+use native.Mathlib.Omega.{arith}
+use Rattle.words.proofs.ByteLaws.{length-bytesOf}
+use Rattle.image.proofs.Writing.{behind}
+use Rattle.model.specs.Image.{mark}
+use borrow.Author.Needs.{needs}
+use Rattle.image.proofs.put.put_start.Statement.{statement}
+use Rattle.image.proofs.put.put_start.Tie as tie
+
+slice-aggregate-put-slice : tie.Need-slice-aggregate-put-slice
+slice-aggregate-put-slice c = search needs
+
+put-slice-requires : tie.Need-put-slice-requires
+put-slice-requires c κs = search needs
+
+sub-put-le : tie.Need-sub-put-le
+sub-put-le c = search needs
+
+part-put-le-start : tie.Need-part-put-le-start
+part-put-le-start c = search needs
+
+part-put-le-end : tie.Need-part-put-le-end
+part-put-le-end c = search needs
+
+cast-put-le : tie.Need-cast-put-le
+cast-put-le c = search needs
+
+put-le-requires : tie.Need-put-le-requires
+put-le-requires c κs = search needs
+
+add-result : tie.Need-add-result
+add-result c = omega (arith, c .before .before .before .before .before .before .put-slice .ensures .count, c .before .before .put-le .ensures .count, length-bytesOf 2 1)
+
+same-length : tie.Need-same-length
+same-length c = search needs
+
+returns : tie.Need-returns
+unfolding mark
+returns c =
+    let k₁ = c .before .before .before .before .before .before .put-slice in
+    let k₂ = c .before .before .put-le in
+    behind mark (bytesOf 2 1) _ (k₁ .last .0) (k₂ .last .0) (k₁ .result) (k₂ .result) (k₁ .ensures) (k₂ .ensures)
+
+pub put-start-spec : {M : Type 1} → statement M
+put-start-spec =
+    tie.close
+    (tie.spec
+    slice-aggregate-put-slice
+    put-slice-requires
+    sub-put-le
+    part-put-le-start
+    part-put-le-end
+    cast-put-le
+    put-le-requires
+    add-result
+    same-length
+    returns)
