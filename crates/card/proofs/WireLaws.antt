@@ -19,7 +19,7 @@ use Rattle.card.specs.declared.wire.Wiring.{Wiring}
 use Rattle.card.specs.declared.wire.Wired.{Wired}
 use Rattle.card.specs.declared.wire.Owed.{Owed}
 use Rattle.card.specs.declared.wire.Owed.the-variants.{Nothing, Assert, Deassert}
-use Rattle.card.specs.Wires.{dueOf, owedOf, wiring, withLevel, bytesOwed, sizeOf}
+use Rattle.card.specs.Wires.{dueOf, owedOf, wiring, withLevel, withMode, bytesOwed, sizeOf}
 
 -- ---- the level
 
@@ -93,3 +93,10 @@ owed-is requester r true true = refl
 owed-is requester r true false = refl
 owed-is requester r false true = refl
 owed-is requester r false false = refl
+
+-- the wire of a function: set to the mechanism in force and Command bit 10, whatever it was before
+pub settled-wire : (w : Wired) (s : Shape) (line wire : Bool) (m : Mode) (d b : Bool) (before : Mode) (p : ℕ) (r : Registers) → w ≡ withMode (wiring line wire before p b) m d
+    → m ≡ modeOf s r → d ≡ commandBit r 10 → p ≡ pinNumber r → (w .wiring .wire ≡ wireDue s line r) × (w .owed ≡ owedOf wire (wireDue s line r))
+settled-wire w s line wire m d b before p r q em ed ep =
+    let e : dueOf (wiring line wire m p d) ≡ wireDue s line r = rw (em, ed, ep) (due-is s line wire r) in
+    (ap (λ (x : Wired). x .wiring .wire) q ∙ e, ap (λ (x : Wired). x .owed) q ∙ ap (owedOf wire) e)

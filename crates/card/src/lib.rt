@@ -1,4 +1,5 @@
 // The card: its wire, and the public calls.
 pub mod access;
 pub mod outcome;
+pub mod settle;
 pub mod wire;
