@@ -1,6 +1,6 @@
 -- Bits that are 0: a word of several bytes has the bits of a mask 0 exactly if each of its bytes has. Assumes nothing.
 use mathlib.Core.Path.{_≡_, refl, sym, ap, ap₂, _∙_}
-use mathlib.Core.Bool.{Bool, true, false, _&&_}
+use mathlib.Core.Bool.{Bool, true, false, _&&_, _||_}
 use mathlib.Core.List.{List, [], _∷_, _++_}
 use Prim.Native.Nat.{ℕ, zero, suc, _+_, _*_, _≤_, _<_}
 use native.Mathlib.Nat.{zero-add}
@@ -11,6 +11,8 @@ use lib.ListN.{length}
 use borrow.Author.Tests.{eq-eqb, eqb-true}
 use Rattle.words.specs.Lists.{all, allAt, count}
 use Rattle.words.specs.Bytes.{byte, number}
+use Rattle.words.specs.Bits.{bit}
+use Rattle.words.proofs.BitLaws.{bits-ext, bit-and, bit-or}
 use Rattle.words.proofs.BoolLaws.{both, and-intro, same-test}
 use Rattle.words.proofs.ListLaws.{all-below, holds-all, member-count, all-at, at-all, count-append}
 use Rattle.words.proofs.NumberLaws.{number-more}
@@ -29,6 +31,21 @@ or-none x y =
     let l : bitAnd x y ≤ x = and-le-l x y in
     let r : bitAnd x y ≤ y = and-le-r x y in
     both-zero x y (bitOr x y) (λ e. (omega arith, omega arith)) (λ e d. omega arith)
+
+both-or : (a b c : Bool) → ((a || b) && c) ≡ ((a && c) || (b && c))
+both-or true true true = refl
+both-or true true false = refl
+both-or true false true = refl
+both-or true false false = refl
+both-or false b c = refl
+
+-- two numbers have the bits of a mask 0 exactly if their bits together have
+pub or-masked : (x y m : ℕ) → eqb (bitAnd (bitOr x y) m) 0 ≡ (eqb (bitAnd x m) 0 && eqb (bitAnd y m) 0)
+or-masked x y m =
+    ap (λ (z : ℕ). eqb z 0) (bits-ext (bitAnd (bitOr x y) m) (bitOr (bitAnd x m) (bitAnd y m))
+    (λ k. bit-and (bitOr x y) m k ∙ ap (λ (b : Bool). b && bit m k) (bit-or x y k) ∙ both-or (bit x k) (bit y k) (bit m k)
+    ∙ sym (bit-or (bitAnd x m) (bitAnd y m) k ∙ ap₂ _||_ (bit-and x m k) (bit-and y m k))))
+    ∙ or-none (bitAnd x m) (bitAnd y m)
 
 -- ---- numbers of n bytes
 

@@ -1,5 +1,5 @@
 -- The entries of the MSI-X table, one behind another. Assumes nothing.
-use mathlib.Core.Path.{_≡_, sym, ap, ap₂, _∙_}
+use mathlib.Core.Path.{_≡_, refl, sym, ap, ap₂, _∙_}
 use mathlib.Core.Bool.{Bool, true, false, cond, _&&_, and-true, and-false}
 use mathlib.Core.List.{List}
 use Prim.Native.Nat.{ℕ, _+_, _*_, _%_, _<_}
@@ -15,7 +15,7 @@ use Rattle.words.proofs.BoolLaws.{by-test}
 use Rattle.words.proofs.ByteLaws.{number-shift}
 use Rattle.model.specs.Registers.{entryZero, startedTable}
 use Rattle.model.proofs.TableLaws.{length-table, byte-table}
-use Rattle.registers.proofs.CleanLaws.{or-none, all-count, clean, clean-word}
+use Rattle.registers.proofs.CleanLaws.{or-none, or-masked, all-count, clean, clean-word}
 
 -- ---- the bits that read 0, eight bytes at once
 
@@ -41,26 +41,35 @@ second-mask : (k : ℕ) → number entryZero (16 * k + 8) 8 ≡ 0xfffffffe000000
 unfolding number entryZero firstOf
 second-mask k = number-shift entryZero entryZero (16 * k + 8) 8 8 (λ j h. entry-again (16 * k + 8 + j) (8 + j) (omega arith))
 
+in-order : (a b c d : Bool) → ((a && b) && (c && d)) ≡ (((a && c) && b) && d)
+in-order true true true d = refl
+in-order true true false d = refl
+in-order true false true d = refl
+in-order true false false d = refl
+in-order false b c d = refl
+
 module _ (t : List ℕ) (b : (i : ℕ) → byte t i < 256) where
   word-clean : (i m w : ℕ) → number entryZero i 8 ≡ m → w ≡ word64 t i → eqb (bitAnd w m) 0 ≡ all (clean entryZero t) (count i 8)
   unfolding word64
   word-clean i m w e f =
       ap (λ (x : ℕ). eqb x 0) (and-comm w m ∙ ap₂ bitAnd (sym e) f) ∙ clean-word entryZero t zero-byte b i 8
 
-  -- one entry more
-  pub entry-clean : (k seen low high : ℕ) → low ≡ word64 t (16 * k) → high ≡ word64 t (16 * k + 8)
-      → eqb seen 0 ≡ all (clean entryZero t) (count 0 (16 * k))
-      → eqb (bitOr (bitOr seen (bitAnd low 0x0000000000000003)) (bitAnd high 0xfffffffe00000000)) 0 ≡ all (clean entryZero t) (count 0 (16 * (k + 1)))
-  entry-clean k seen low high e f g =
+  -- the first k entries, whose bits together are low and high, and one more
+  pub entry-clean : (k low high v w : ℕ) → v ≡ word64 t (16 * k) → w ≡ word64 t (16 * k + 8)
+      → eqb (bitOr (bitAnd low 0x0000000000000003) (bitAnd high 0xfffffffe00000000)) 0 ≡ all (clean entryZero t) (count 0 (16 * k))
+      → eqb (bitOr (bitAnd (bitOr low v) 0x0000000000000003) (bitAnd (bitOr high w) 0xfffffffe00000000)) 0 ≡ all (clean entryZero t) (count 0 (16 * (k + 1)))
+  entry-clean k low high v w e f g =
       let test : ℕ → Bool = clean entryZero t in
+      let m : ℕ = 0x0000000000000003 in
+      let n : ℕ = 0xfffffffe00000000 in
       let s : 16 * (k + 1) ≡ 16 * k + 8 + 8 = omega arith in
-      or-none (bitOr seen (bitAnd low 0x0000000000000003)) (bitAnd high 0xfffffffe00000000)
+      or-none (bitAnd (bitOr low v) m) (bitAnd (bitOr high w) n)
+      ∙ ap₂ _&&_ (or-masked low v m) (or-masked high w n)
+      ∙ in-order (eqb (bitAnd low m) 0) (eqb (bitAnd v m) 0) (eqb (bitAnd high n) 0) (eqb (bitAnd w n) 0)
       ∙ ap₂ _&&_
-      (or-none seen (bitAnd low 0x0000000000000003)
-      ∙ ap₂ _&&_ g (word-clean (16 * k) 0x0000000000000003 low (first-mask k) e)
-      ∙ sym (all-count test (16 * k) 8))
-      (word-clean (16 * k + 8) 0xfffffffe00000000 high (second-mask k) f)
-      ∙ sym (ap (λ (n : ℕ). all test (count 0 n)) s ∙ all-count test (16 * k + 8) 8)
+      (ap₂ _&&_ (sym (or-none (bitAnd low m) (bitAnd high n)) ∙ g) (word-clean (16 * k) m v (first-mask k) e) ∙ sym (all-count test (16 * k) 8))
+      (word-clean (16 * k + 8) n w (second-mask k) f)
+      ∙ sym (ap (λ (i : ℕ). all test (count 0 i)) s ∙ all-count test (16 * k + 8) 8)
 
 -- ---- the table of a start
 

@@ -1,6 +1,5 @@
 // Bits that are stored as 0 are 0.
 ghost use mathlib.Core.Path.{_≡_};
-ghost use Prim.Native.Nat.{_≤_};
 ghost use lib.ListN.{length};
 ghost use Rattle.model.specs.Registers.{storedZero};
 ghost use Rattle.model.specs.Sound.{zeroBits};

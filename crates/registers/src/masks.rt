@@ -66,6 +66,7 @@ fn msi_writable(s: Shape, f: Form, k: usize) -> u8
     0
 }
 
+// The writable bits of byte i: header, MSI, MSI-X control bits 14 and 15.
 pub fn writable(s: Shape, i: usize) -> u8
     requires { ⌜ s .msi .capable ≤ 5 ⌝ }
     ensures { λ r. ⌜ r ≡ writable s i ⌝ }
@@ -97,7 +98,7 @@ fn msi_zero(s: Shape, f: Form, k: usize) -> u8
     if within(f.pending, 4, k) { 0xff } else { 0 }
 }
 
-// Status bit 3, and MSI's.
+// The bits of byte i that are stored as 0: Status bit 3, and MSI's.
 pub fn stored_zero(s: Shape, i: usize) -> u8
     requires { ⌜ s .msi .capable ≤ 5 ⌝ }
     ensures { λ r. ⌜ r ≡ storedZero s i ⌝ }

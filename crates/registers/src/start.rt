@@ -15,6 +15,7 @@ fn fixed_byte(s: Shape, i: usize, b: u8) -> u8
     !writable(s, i) & (!stored_zero(s, i) & b)
 }
 
+// Made of zeros, then filled byte by byte.
 fn started_bytes(c: &[u8], s: Shape) -> [u8; 256]
     requires { ⌜ (length (now c) ≡ 256) × (s .msi .capable ≤ 5) ⌝ }
     ensures { λ r. ⌜ r ≡ startedConfig s (now (c .entry)) ⌝ }

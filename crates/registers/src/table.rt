@@ -45,16 +45,16 @@ pub fn started_table(table: &mut [u8], n: usize)
     }
 }
 
-// Every bit that reads 0 is 0: of each entry address bits 1:0 and control bits 31:1.
+// Every bit that reads 0 is 0: of each entry address bits 1:0 and control bits 31:1. The bits of all entries are gathered, and tested once.
 pub fn table_clean(table: &[u8], n: usize) -> bool
     requires { ⌜ length (now table) ≡ 16 * n ⌝ }
     ensures { λ r. ⌜ r ≡ zeroBits entryZero (now (table .entry)) ⌝ }
 {
-    let mut seen: u64 = 0;
+    let mut low: u64 = 0;
+    let mut high: u64 = 0;
     for k in 0..n {
-        let low = words::get::word64(table, 16 * k) & 0x0000000000000003;
-        let high = words::get::word64(table, 16 * k + 8) & 0xfffffffe00000000;
-        seen = seen | low | high;
+        low = low | words::get::word64(table, 16 * k);
+        high = high | words::get::word64(table, 16 * k + 8);
     }
-    seen == 0
+    ((low & 0x0000000000000003) | (high & 0xfffffffe00000000)) == 0
 }

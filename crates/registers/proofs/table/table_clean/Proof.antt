@@ -1,8 +1,9 @@
--- The bits seen are 0 exactly if the first k entries are clean. Assumes nothing.
+-- The bits gathered have those of both masks 0 exactly if the first k entries are clean. Assumes nothing.
 use mathlib.Core.Path.{_≡_, refl, sym, ap, _∙_}
 use mathlib.Core.Bool.{Bool, true}
 use Prim.Native.Nat.{ℕ, _-_, _*_, _≤_}
 use native.Mathlib.Omega.{arith}
+use lib.Bits.{bitAnd, bitOr}
 use lib.Dec.{eqb}
 use denote.Ref.{now}
 use Rattle.words.specs.Lists.{all, count}
@@ -18,10 +19,11 @@ unfolding all count
 none f = refl
 
 abbrev Inv-loop : tie.InvT-loop
-Inv-loop table n seen₀ k₀ seen k = (k ≤ n) × (eqb seen 0 ≡ all (clean entryZero table) (count 0 (16 * k)))
+Inv-loop table n low₀ high₀ k₀ low high k =
+    (k ≤ n) × (eqb (bitOr (bitAnd low 0x0000000000000003) (bitAnd high 0xfffffffe00000000)) 0 ≡ all (clean entryZero table) (count 0 (16 * k)))
 
 abbrev μ-loop : tie.MeasureT-loop
-μ-loop table n seen₀ k₀ seen k = n - k
+μ-loop table n low₀ high₀ k₀ low high k = n - k
 
 loop-holds : tie.Need-loop-holds Inv-loop μ-loop
 loop-holds c = (omega arith, none _)
@@ -53,7 +55,7 @@ loop-again c =
     let d = c .before .before .before .before in
     let t = now (d .before .args .table) in (
       omega arith,
-      entry-clean t (λ i. d .shared-slice-known .given i .fits) (v .k) (v .seen) (c .before .word64 .result) (c .word642 .result)
+      entry-clean t (λ i. d .shared-slice-known .given i .fits) (v .k) (v .low) (v .high) (c .before .word64 .result) (c .word642 .result)
           (c .before .word64 .ensures) (c .word642 .ensures) (v .inv .1),
     )
 
