@@ -37,3 +37,4 @@ pub mod CallLaws
 pub mod BarLaws
 pub mod ImageBack
 pub mod SoundTests
+pub mod ReadLaws
