@@ -1,2 +1,3 @@
 pub mod WireLaws
 pub mod AccessLaws
+pub mod SoundFor

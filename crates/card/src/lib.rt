@@ -2,4 +2,5 @@
 pub mod access;
 pub mod outcome;
 pub mod settle;
+pub mod sound;
 pub mod wire;

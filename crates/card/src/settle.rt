@@ -29,7 +29,7 @@ fn with_waiting(f: Function, waiting: u32) -> Function
 }
 
 // The wire goes to the level that it should have by the registers of a function.
-fn settle_wire(f: Function, wire: bool, s: Shape) -> Wired
+pub fn settle_wire(f: Function, wire: bool, s: Shape) -> Wired
     requires { ⌜ FitShape s ⌝ }
     ensures { λ r. ⌜ ((t : List ℕ) → (r .wiring .wire ≡ wireDue s (f .line) (regs (f .config) t)) × (r .owed ≡ owedOf wire (wireDue s (f .line) (regs (f .config) t)))) ⌝ }
 {
