@@ -4,6 +4,7 @@ use mathlib.Core.Bool.{Bool, true, false, not, cond, _&&_, Bool·beq, and-false}
 use mathlib.Core.List.{List, []}
 use Prim.Native.Nat.{ℕ, _≤_}
 use Rattle.words.specs.Writers.{Wrote}
+use native.Mathlib.Omega.{arith}
 use lib.Dec.{eqb}
 use lib.ListN.{length}
 use borrow.Author.Tests.{eq-eqb, ne-eqb, not-true, not-false}
@@ -65,6 +66,12 @@ unfolding bytesOwed sizeOf
 owed-length Nothing requester pin = refl
 owed-length Assert requester pin = wire-length requester pin true
 owed-length Deassert requester pin = wire-length requester pin false
+
+pub size-small : (o : Owed) → sizeOf o ≤ 16
+unfolding sizeOf
+size-small Nothing = omega arith
+size-small Assert = omega arith
+size-small Deassert = omega arith
 
 -- each packet as the writer of wire packets writes it, and its room
 pub owed-nothing : (o : Owed) (requester pin : ℕ) (out : List ℕ) → o ≡ Nothing → Wrote (bytesOwed o requester pin) out 0 out

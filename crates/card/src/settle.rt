@@ -5,9 +5,17 @@ ghost use Prim.Native.Nat.{ℕ};
 ghost use Rattle.model.specs.World.{functionOf};
 ghost use Rattle.model.specs.Release.{wireDue};
 ghost use Rattle.vectors.specs.Given.{regs, FitShape};
+ghost use Rattle.model.specs.World.{endpointOf, worldOf};
+ghost use Rattle.model.specs.Ready.{Ready};
+ghost use Rattle.card.specs.Outcomes.{after, settleOf};
 ghost use Rattle.card.specs.Wires.{owedOf};
+use crate::outcome::Outcome;
+use crate::outcome::accepted;
+use crate::outcome::refused;
 use crate::wire::Wired;
 use crate::wire::Wiring;
+use model::Answer;
+use model::Card;
 use model::Function;
 use model::Mode;
 use model::Shape;
@@ -45,4 +53,32 @@ pub fn settle_wire(f: Function, wire: bool, s: Shape) -> Wired
         disabled: false,
     };
     before.set_mode(mode, disabled)
+}
+
+// A changed function on a card: 6 where the packets that it owes are longer than the output, else the wire's packet and the open waiting vectors'.
+pub fn settle(
+    card: Card,
+    f: Function,
+    s: Shape,
+    table: &[u8],
+    pending: &mut [u8],
+    out: &mut [u8],
+) -> Outcome
+    requires { ⌜ Ready s (endpointOf f (now table) (now pending)) ⌝ }
+    ensures { λ r. ⌜ after r (now (table .entry)) (now (pending .exit)) (now (out .exit)) ≡ settleOf card s (endpointOf f (now (table .entry)) (now (pending .entry))) (worldOf card (now (table .entry)) (now (pending .entry))) (now (out .entry)) ⌝ }
+{
+    let wired = settle_wire(f, card.wire, s);
+    let owed = wired.owed;
+    let first = crate::wire::owed_size(owed);
+    let rest = endpoint::sweep::owed_size(f, s, table, pending);
+    if out.len() < first + rest {
+        return refused(card, 6);
+    }
+    let config = f.config;
+    let pin = vectors::wire::pin_number(&config);
+    let at = crate::wire::put_owed(out, owed, f.requester, pin);
+    let sent = endpoint::sweep::send_owed(f, s, table, pending, &mut out[at..]);
+    let function = with_waiting(f, sent.waiting);
+    let wire = wired.wiring.wire;
+    accepted(Card { function, wire }, Answer::Done, at + sent.count)
 }

@@ -51,7 +51,7 @@ unfolding owed
 owed-length m s u =
     omega (arith, keep-length (λ v. isOpen m s (registers u) v && waits m u v) (count 0 (vectorCount m s)), length-count 0 (vectorCount m s))
 
-sweep-le : (u : Endpoint) (s : Shape) → Ready s u → length (sweepBytes s u) ≤ 40960
+pub sweep-le : (u : Endpoint) (s : Shape) → Ready s u → length (sweepBytes s u) ≤ 40960
 unfolding sweepBytes owedNow
 sweep-le u s k =
     let m : Mode = modeOf s (registers u) in
