@@ -2,3 +2,5 @@ pub mod WireLaws
 pub mod AccessLaws
 pub mod SoundFor
 pub mod SettleFor
+pub mod CallsFor
+pub mod ConfigFor

@@ -1,5 +1,7 @@
 // The card: its wire, and the public calls.
 pub mod access;
+pub mod changed;
+pub mod config_write;
 pub mod outcome;
 pub mod settle;
 pub mod sound;

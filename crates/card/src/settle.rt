@@ -2,7 +2,6 @@
 ghost use mathlib.Core.Path.{_≡_};
 ghost use mathlib.Core.List.{List};
 ghost use Prim.Native.Nat.{ℕ};
-ghost use Rattle.model.specs.World.{functionOf};
 ghost use Rattle.model.specs.Release.{wireDue};
 ghost use Rattle.vectors.specs.Given.{regs, FitShape};
 ghost use Rattle.model.specs.World.{endpointOf, worldOf};
@@ -19,22 +18,6 @@ use model::Card;
 use model::Function;
 use model::Mode;
 use model::Shape;
-
-// A function with other MSI waiting bits.
-fn with_waiting(f: Function, waiting: u32) -> Function
-    ensures { λ r. ⌜ r ≡ functionOf (f .config) (f .sizes) (f .events) (f .requester) (f .line) waiting ⌝ }
-{
-    let config = f.config;
-    let sizes = f.sizes;
-    Function {
-        config,
-        sizes,
-        events: f.events,
-        requester: f.requester,
-        line: f.line,
-        waiting,
-    }
-}
 
 // The wire goes to the level that it should have by the registers of a function.
 pub fn settle_wire(f: Function, wire: bool, s: Shape) -> Wired
@@ -78,7 +61,7 @@ pub fn settle(
     let pin = vectors::wire::pin_number(&config);
     let at = crate::wire::put_owed(out, owed, f.requester, pin);
     let sent = endpoint::sweep::send_owed(f, s, table, pending, &mut out[at..]);
-    let function = with_waiting(f, sent.waiting);
+    let function = crate::changed::with_waiting(f, sent.waiting);
     let wire = wired.wiring.wire;
     accepted(Card { function, wire }, Answer::Done, at + sent.count)
 }
