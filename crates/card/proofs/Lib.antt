@@ -4,3 +4,4 @@ pub mod SoundFor
 pub mod SettleFor
 pub mod CallsFor
 pub mod ConfigFor
+pub mod LineFor

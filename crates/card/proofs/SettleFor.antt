@@ -1,27 +1,21 @@
 -- The ways out of what follows a change: 6, or the wire's packet and then the open waiting vectors'. Assumes nothing.
 use mathlib.Core.Path.{_≡_, refl, sym, ap, ap₂, _∙_}
-use mathlib.Core.Bool.{Bool, true, false, not, cond}
+use mathlib.Core.Bool.{Bool, true, false, cond}
 use mathlib.Core.List.{List, _++_}
-use Prim.Native.Nat.{ℕ, _+_, _-_, _%_, _≤_, _<_}
+use Prim.Native.Nat.{ℕ, _+_, _-_, _≤_, _<_}
 use native.Mathlib.Omega.{arith}
-use lib.Dec.{ltb, eqb}
+use lib.Dec.{ltb}
 use lib.ListN.{length, length-append, length-take, length-drop}
-use borrow.Author.Tests.{lt-ltb, le-ltb, ltb-false}
+use borrow.Author.Tests.{lt-ltb, le-ltb}
 use borrow.Rule.Slice.PartMut.{putMid, midOf}
-use Rattle.words.specs.Bytes.{byte}
 use Rattle.words.specs.Writers.{over, Wrote}
-use Rattle.words.proofs.BoolLaws.{neither}
 use Rattle.model.specs.declared.Answer.the-variants.{Done}
 use Rattle.model.specs.declared.Card.{Card}
 use Rattle.model.specs.declared.Function.{Function}
 use Rattle.model.specs.declared.Shape.{Shape}
 use Rattle.model.specs.World.{World, Endpoint, registers, worldOf, functionOf, withWaiting}
 use Rattle.model.specs.Release.{pinNumber, wireDueOf, wireChange, sweepBytes, swept, settled, settleBytes}
-use Rattle.model.specs.Ready.{Ready}
-use Rattle.model.specs.Start.{badHeader}
-use Rattle.model.specs.Sound.{givenOf}
 use Rattle.model.specs.Calls as Calls
-use Rattle.model.proofs.SoundLaws.{accepts}
 use Rattle.model.proofs.BytesBound.{sweep-le}
 use Rattle.image.proofs.Writing.{behind}
 use Rattle.endpoint.specs.declared.sweep.Sent.{Sent}
@@ -31,13 +25,6 @@ use Rattle.card.specs.declared.wire.Owed.{Owed}
 use Rattle.card.specs.Outcomes.{refusedWith, acceptedWith, after, settleOf}
 use Rattle.card.specs.Wires.{owedOf, bytesOwed, sizeOf}
 use Rattle.card.proofs.WireLaws.{owed-is, owed-length}
-
--- the pin number of a function that a start accepts
-pub pin-small : (s : Shape) (u : Endpoint) → Ready s u → pinNumber (registers u) ≤ 4
-unfolding badHeader pinNumber
-pin-small s u k =
-    let c : List ℕ = u .function .config in
-    ltb-false 4 (byte c 0x3d) (neither (not (eqb (byte c 0x0e % 128) 0)) (ltb 4 (byte c 0x3d)) (accepts (givenOf u) (k .start) .header) .1)
 
 -- a changed function u on a card, and the packet o that the wire owes
 module _ (card : Card) (s : Shape) (u : Endpoint) (o : Owed) (eo : o ≡ owedOf (card .wire) (wireDueOf s u)) where

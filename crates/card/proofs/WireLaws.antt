@@ -20,7 +20,7 @@ use Rattle.card.specs.declared.wire.Wiring.{Wiring}
 use Rattle.card.specs.declared.wire.Wired.{Wired}
 use Rattle.card.specs.declared.wire.Owed.{Owed}
 use Rattle.card.specs.declared.wire.Owed.the-variants.{Nothing, Assert, Deassert}
-use Rattle.card.specs.Wires.{dueOf, owedOf, wiring, withLevel, withMode, bytesOwed, sizeOf}
+use Rattle.card.specs.Wires.{dueOf, owedOf, wiring, withLevel, withLine, withMode, bytesOwed, sizeOf}
 
 -- ---- the level
 
@@ -101,9 +101,20 @@ owed-is requester r true false = refl
 owed-is requester r false true = refl
 owed-is requester r false false = refl
 
--- the wire of a function: set to the mechanism in force and Command bit 10, whatever it was before
-pub settled-wire : (w : Wired) (s : Shape) (line wire : Bool) (m : Mode) (d b : Bool) (before : Mode) (p : ℕ) (r : Registers) → w ≡ withMode (wiring line wire before p b) m d
-    → m ≡ modeOf s r → d ≡ commandBit r 10 → p ≡ pinNumber r → (w .wiring .wire ≡ wireDue s line r) × (w .owed ≡ owedOf wire (wireDue s line r))
-settled-wire w s line wire m d b before p r q em ed ep =
-    let e : dueOf (wiring line wire m p d) ≡ wireDue s line r = rw (em, ed, ep) (due-is s line wire r) in
-    (ap (λ (x : Wired). x .wiring .wire) q ∙ e, ap (λ (x : Wired). x .owed) q ∙ ap (owedOf wire) e)
+-- the state as the registers have it
+abbrev pub wiringOf : Shape → Bool → Bool → Registers → Wiring
+wiringOf s line wire r = wiring line wire (modeOf s r) (pinNumber r) (commandBit r 10)
+
+pub wiring-is : (s : Shape) (line wire : Bool) (r : Registers) (m : Mode) (p : ℕ) (d : Bool) → m ≡ modeOf s r → p ≡ pinNumber r → d ≡ commandBit r 10 → wiring line wire m p d ≡ wiringOf s line wire r
+wiring-is s line wire r m p d em ep ed = rw (em, ep, ed)
+
+-- the wire goes to the level that it should have: with the mechanism in force and Command bit 10 as they are, and with another level of the line
+module _ (v : Wiring) (w : Wired) (s : Shape) (line wire : Bool) (r : Registers) (e : v ≡ wiringOf s line wire r) where
+  settled-wire : (level : Bool) → w ≡ withLevel (wiringOf s level wire r) (dueOf (wiringOf s level wire r)) → (w .wiring .wire ≡ wireDue s level r) × (w .owed ≡ owedOf wire (wireDue s level r))
+  settled-wire level q = rw (q, due-is s level wire r) (refl, refl)
+
+  pub settled-mode : w ≡ withMode v (v .mode) (v .disabled) → (w .wiring .wire ≡ wireDue s line r) × (w .owed ≡ owedOf wire (wireDue s line r))
+  settled-mode q = settled-wire line (rw e at q)
+
+  pub settled-line : (level : Bool) → w ≡ withLine v level → (w .wiring .wire ≡ wireDue s level r) × (w .owed ≡ owedOf wire (wireDue s level r))
+  settled-line level q = settled-wire level (rw e at q)

@@ -2,12 +2,13 @@
 ghost use mathlib.Core.Path.{_≡_};
 ghost use mathlib.Core.List.{List};
 ghost use Prim.Native.Nat.{ℕ};
-ghost use Rattle.model.specs.Release.{wireDue};
+ghost use Rattle.model.specs.Vectors.{modeOf, commandBit};
+ghost use Rattle.model.specs.Release.{pinNumber, wireDue};
 ghost use Rattle.vectors.specs.Given.{regs, FitShape};
 ghost use Rattle.model.specs.World.{endpointOf, worldOf};
 ghost use Rattle.model.specs.Ready.{Ready};
 ghost use Rattle.card.specs.Outcomes.{after, settleOf};
-ghost use Rattle.card.specs.Wires.{owedOf};
+ghost use Rattle.card.specs.Wires.{owedOf, wiring};
 use crate::outcome::Outcome;
 use crate::outcome::accepted;
 use crate::outcome::refused;
@@ -16,25 +17,34 @@ use crate::wire::Wiring;
 use model::Answer;
 use model::Card;
 use model::Function;
-use model::Mode;
 use model::Shape;
+
+// The small state of the wire by the registers of a function.
+pub fn wiring(f: Function, wire: bool, s: Shape) -> Wiring
+    requires { ⌜ FitShape s ⌝ }
+    ensures { λ r. ⌜ ((t : List ℕ) → r ≡ wiring (f .line) wire (modeOf s (regs (f .config) t)) (pinNumber (regs (f .config) t)) (commandBit (regs (f .config) t) 10)) ⌝ }
+{
+    let config = f.config;
+    let mode = vectors::mode::mode(&config, s);
+    let disabled = vectors::mode::command_bit(&config, 10);
+    let pin = vectors::wire::pin_number(&config);
+    Wiring {
+        line: f.line,
+        wire,
+        mode,
+        pin,
+        disabled,
+    }
+}
 
 // The wire goes to the level that it should have by the registers of a function.
 pub fn settle_wire(f: Function, wire: bool, s: Shape) -> Wired
     requires { ⌜ FitShape s ⌝ }
     ensures { λ r. ⌜ ((t : List ℕ) → (r .wiring .wire ≡ wireDue s (f .line) (regs (f .config) t)) × (r .owed ≡ owedOf wire (wireDue s (f .line) (regs (f .config) t)))) ⌝ }
 {
-    let config = f.config;
-    let mode = vectors::mode::mode(&config, s);
-    let disabled = vectors::mode::command_bit(&config, 10);
-    let pin = vectors::wire::pin_number(&config);
-    let before = Wiring {
-        line: f.line,
-        wire,
-        mode: Mode::Pin,
-        pin,
-        disabled: false,
-    };
+    let before = wiring(f, wire, s);
+    let mode = before.mode;
+    let disabled = before.disabled;
     before.set_mode(mode, disabled)
 }
 
