@@ -5,3 +5,4 @@ pub mod SettleFor
 pub mod CallsFor
 pub mod ConfigFor
 pub mod LineFor
+pub mod EventFor

@@ -2,6 +2,7 @@
 pub mod access;
 pub mod changed;
 pub mod config_write;
+pub mod event;
 pub mod line;
 pub mod outcome;
 pub mod settle;
