@@ -1,3 +1,4 @@
 pub mod WireLaws
 pub mod AccessLaws
 pub mod SoundFor
+pub mod StartFor

@@ -3,4 +3,5 @@ pub mod access;
 pub mod outcome;
 pub mod settle;
 pub mod sound;
+pub mod started;
 pub mod wire;
