@@ -1,5 +1,5 @@
 -- The code's outcome of a call, and the definitions' outcome that it stands for. Assumes nothing.
-use mathlib.Core.Bool.{cond}
+use mathlib.Core.Bool.{cond, false}
 use mathlib.Core.List.{List}
 use lib.Dec.{ltb}
 use lib.ListN.{length}
@@ -8,7 +8,7 @@ use Rattle.model.specs.declared.Answer.{Answer}
 use Rattle.model.specs.declared.Answer.the-variants.{Refused, Done}
 use Rattle.model.specs.declared.Card.{Card}
 use Rattle.model.specs.declared.Shape.{Shape}
-use Rattle.model.specs.World.{World, Endpoint, worldOf}
+use Rattle.model.specs.World.{World, Endpoint, worldOf, zeroFunction}
 use Rattle.model.specs.Release.{settled, settleBytes}
 use Rattle.model.specs.Calls as Calls
 use Rattle.card.specs.declared.outcome.Outcome.{Outcome}
@@ -18,6 +18,10 @@ refusedWith card n = record { card = card; answer = Refused n; count = 0 }
 
 abbrev pub acceptedWith : Card → Answer → ℕ → Outcome
 acceptedWith card answer count = record { card = card; answer = answer; count = count }
+
+-- the card of a refused start
+abbrev pub zeroCard : Card
+zeroCard = record { function = zeroFunction; wire = false }
 
 -- a result with the later contents of table, pending array and output
 abbrev pub after : Outcome → (table pending output : List ℕ) → Calls.Outcome

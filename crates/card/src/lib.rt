@@ -3,5 +3,6 @@ pub mod access;
 pub mod outcome;
 pub mod settle;
 pub mod sound;
+pub mod start;
 pub mod started;
 pub mod wire;
