@@ -2,3 +2,4 @@ pub mod WireLaws
 pub mod AccessLaws
 pub mod SoundFor
 pub mod StartFor
+pub mod SaveFor

@@ -1,6 +1,7 @@
 // The card: its wire, and the public calls.
 pub mod access;
 pub mod outcome;
+pub mod save;
 pub mod settle;
 pub mod sound;
 pub mod start;
