@@ -3,3 +3,4 @@ pub mod AccessLaws
 pub mod SoundFor
 pub mod StartFor
 pub mod SaveFor
+pub mod RestoreFor

@@ -1,5 +1,6 @@
 // The card: its wire, and the public calls.
 pub mod access;
+pub mod held;
 pub mod outcome;
 pub mod save;
 pub mod settle;
