@@ -1,7 +1,7 @@
 -- The card that an image holds, and each way out of a restore. Assumes nothing.
 use mathlib.Core.Path.{_≡_, refl, sym, ap, ap₂, _∙_}
 use mathlib.Core.Bool.{Bool, true, false, not, _&&_, _||_, and-true, and-false}
-use mathlib.Core.List.{List, []}
+use mathlib.Core.List.{List, [], _∷_}
 use Prim.Native.Nat.{ℕ, _+_, _-_, _≤_, _<_}
 use native.Mathlib.Nat.{min-le-right}
 use native.Mathlib.Omega.{arith}
@@ -25,6 +25,7 @@ use Rattle.model.specs.Calls.{accepted, restoreOf}
 use Rattle.model.proofs.Refusals.{answered-yes, answered-no}
 use Rattle.model.proofs.FitLaws.{sound-fit}
 use Rattle.model.proofs.ImageBack.{image-same}
+use Rattle.image.specs.Layout.{imageSize}
 use Rattle.image.proofs.CardLaws.{world-held}
 use Rattle.card.specs.declared.outcome.Outcome.{Outcome}
 use Rattle.card.specs.Outcomes.{refusedWith, acceptedWith, after}
@@ -77,3 +78,95 @@ module _ (l : List ℕ) (b : Bytes l) (long : 294 ≤ length l) (m : same (take 
 
       pub by-check : (r : Bool) → 294 + n ≤ length l → r ≡ sound (worldOf card (take (294 + n - 294) (drop 294 l)) (take (length l - (294 + n)) (drop (294 + n) l))) → r ≡ isSaved l
       by-check r d s = s ∙ ap sound (parts l card n d ∙ held l card n e k) ∙ saved-sound
+
+-- ---- each way out
+
+-- refused with the number k
+restore-refused : (card : Card) (t p l : List ℕ) (r : Outcome) (k : ℕ) → restoreRefusal l (length t) (length p) ≡ k → eqb k 0 ≡ false → r ≡ refusedWith card k
+    → after r t p [] ≡ restoreOf (worldOf card t p) l
+unfolding restoreOf
+restore-refused card t p l r k e z q =
+    rw (q, ← e) (sym (answered-no (restoreRefusal l (length t) (length p)) _ _ (ap (λ (n : ℕ). eqb n 0) e ∙ z)))
+
+-- 20
+pub no-image : (card : Card) (t p l : List ℕ) (r : Outcome) → length l < 294 → r ≡ refusedWith card 20 → after r t p [] ≡ restoreOf (worldOf card t p) l
+unfolding restoreRefusal firstOf
+no-image card t p l r h q = restore-refused card t p l r 20 (rw (lt-ltb (length l) 294 h)) refl q
+
+module _ (l : List ℕ) (long : 294 ≤ length l) (b : Bool) (e : b ≡ same (take 3 l) mark) where
+  pub no-mark : (card : Card) (t p : List ℕ) (r : Outcome) → not b ≡ true → r ≡ refusedWith card 20 → after r t p [] ≡ restoreOf (worldOf card t p) l
+  unfolding restoreRefusal firstOf
+  no-mark card t p r h q = restore-refused card t p l r 20 (rw (le-ltb (length l) 294 long, ← e, not-true b h)) refl q
+
+  module _ (y : not b ≡ false) (v : ℕ) (d : v ≡ word16 l 3) where
+    -- 21
+    pub other-version : (card : Card) (t p : List ℕ) (r : Outcome) → (v ≡ 1 → ⊥) → r ≡ refusedWith card 21 → after r t p [] ≡ restoreOf (worldOf card t p) l
+    unfolding restoreRefusal firstOf
+    other-version card t p r h q =
+        restore-refused card t p l r 21 (rw (le-ltb (length l) 294 long, ← e, not-false b y, ← d, ne-eqb v 1 h)) refl q
+
+    module _ (one : v ≡ 1) where
+      pub is-image : (same (take 3 l) mark ≡ true) × (word16 l 3 ≡ 1)
+      is-image = (sym e ∙ not-false b y, sym d ∙ one)
+
+      -- the rows behind these
+      later : (m n : ℕ) → restoreRefusal l m n
+          ≡ firstOf ((22, not (isSaved l)) ∷ (17, not (eqb m (length (worldIn l .endpoint .table))) || not (eqb n (length (worldIn l .endpoint .pending)))) ∷ [])
+      unfolding restoreRefusal firstOf
+      later m n = rw (le-ltb (length l) 294 long, is-image .0, is-image .1)
+
+      module _ (a : Bool) (s : a ≡ isSaved l) where
+        -- 22
+        pub not-saved : (card : Card) (t p : List ℕ) (r : Outcome) → not a ≡ true → r ≡ refusedWith card 22 → after r t p [] ≡ restoreOf (worldOf card t p) l
+        unfolding firstOf
+        not-saved card t p r h q = restore-refused card t p l r 22 (later (length t) (length p) ∙ rw (← s, not-true a h)) refl q
+
+        module _ (x : not a ≡ false) (card′ : Card) (n : ℕ) (c : card′ ≡ cardOf (worldIn l)) (k : n ≡ tableBytes (shapeOf (card′ .function .config))) where
+          saved : isSaved l ≡ true
+          saved = sym s ∙ not-false a x
+
+          pub room : 294 + n ≤ length l
+          unfolding isSaved
+          room = whole l card′ n c k long (both (sound (worldIn l)) (same (imageOf (worldIn l)) l) saved .0)
+
+          table-is : length (worldIn l .endpoint .table) ≡ n
+          table-is =
+              let h : n ≤ length (drop 294 l) = rw length-drop (omega (arith, room)) in
+              ap (λ (w : World). length (w .endpoint .table)) (sym (held l card′ n c k)) ∙ length-take-le n (drop 294 l) h
+
+          pending-is : length (worldIn l .endpoint .pending) ≡ length l - 294 - n
+          pending-is =
+              ap (λ (w : World). length (w .endpoint .pending)) (sym (held l card′ n c k)) ∙ length-drop n (drop 294 l)
+              ∙ ap (λ (m : ℕ). m - n) (length-drop 294 l)
+
+          buffers : (i j : ℕ) → restoreRefusal l i j ≡ firstOf ((17, not (eqb i n) || not (eqb j (length l - 294 - n))) ∷ [])
+          unfolding firstOf
+          buffers i j = later i j ∙ rw (saved, table-is, pending-is)
+
+          -- 17
+          pub other-table : (card : Card) (t p : List ℕ) (r : Outcome) → (length t ≡ n → ⊥) → r ≡ refusedWith card 17 → after r t p [] ≡ restoreOf (worldOf card t p) l
+          unfolding firstOf
+          other-table card t p r h q = restore-refused card t p l r 17 (buffers (length t) (length p) ∙ rw (ne-eqb (length t) n h)) refl q
+
+          module _ (card : Card) (t p : List ℕ) (f : length t ≡ n) where
+            pub other-pending : (r : Outcome) → (length p ≡ length l - 294 - n → ⊥) → r ≡ refusedWith card 17 → after r t p [] ≡ restoreOf (worldOf card t p) l
+            unfolding firstOf
+            other-pending r h q =
+                restore-refused card t p l r 17
+                (buffers (length t) (length p) ∙ rw (eq-eqb (length t) n f, ne-eqb (length p) (length l - 294 - n) h)) refl q
+
+            module _ (g : length p ≡ length l - 294 - n) where
+              pub filled : length l ≡ imageSize (length t) (length p)
+              filled = omega (arith, room, f, g)
+
+              no-refusal : restoreRefusal l (length t) (length p) ≡ 0
+              unfolding firstOf
+              no-refusal = buffers (length t) (length p) ∙ rw (eq-eqb (length t) n f, eq-eqb (length p) (length l - 294 - n) g)
+
+              pub restored : (t′ p′ : List ℕ) (r : Outcome) → t′ ≡ take (length t) (drop 294 l) → p′ ≡ drop (length t) (drop 294 l) → r ≡ acceptedWith card′ Done 0
+                  → after r t′ p′ [] ≡ restoreOf (worldOf card t p) l
+              unfolding restoreOf
+              restored t′ p′ r i j q =
+                  rw (q, i, j)
+                  (ap (λ (m : ℕ). accepted (worldOf card′ (take m (drop 294 l)) (drop m (drop 294 l))) Done [] []) f
+                  ∙ ap (λ (w : World). accepted w Done [] []) (held l card′ n c k) ∙ sym (answered-yes (restoreRefusal l (length t) (length p)) _ _ no-refusal))

@@ -1,16 +1,16 @@
 -- Each way out of a save. Assumes nothing.
-use mathlib.Core.Path.{_≡_, refl, sym, ap, _∙_}
+use mathlib.Core.Path.{_≡_, refl, sym}
 use mathlib.Core.Bool.{Bool, true, false, not}
 use mathlib.Core.List.{List}
-use Prim.Native.Nat.{ℕ, _*_, _^_, _≤_, _<_}
+use Prim.Native.Nat.{ℕ, _^_, _≤_, _<_}
 use native.Mathlib.Omega.{arith}
 use lib.ListN.{length}
 use Rattle.words.specs.Lists.{firstOf}
 use Rattle.words.specs.Writers.{Wrote}
 use Rattle.model.specs.declared.Answer.the-variants.{Done}
 use Rattle.model.specs.declared.Card.{Card}
-use Rattle.model.specs.Shape.{shapeOf, tableBytes, pendingBytes}
-use Rattle.model.specs.World.{World, worldOf}
+use Rattle.model.specs.Shape.{tableBytes, pendingBytes}
+use Rattle.model.specs.World.{worldOf}
 use Rattle.model.specs.Sound.{sound}
 use Rattle.model.specs.Image.{imageOf}
 use Rattle.model.specs.Calls.{save, rows, next, sends, answerOf, outputOf, step}

@@ -1,5 +1,5 @@
 -- The function and the buffers that a start gives, and each way out of a start. Assumes nothing.
-use mathlib.Core.Path.{_≡_, refl, sym, ap, _∙_}
+use mathlib.Core.Path.{_≡_, sym, ap, _∙_}
 use mathlib.Core.Bool.{false}
 use mathlib.Core.List.{List, []}
 use Prim.Native.Nat.{ℕ, _*_}
@@ -10,7 +10,7 @@ use Rattle.model.specs.declared.Answer.the-variants.{Done}
 use Rattle.model.specs.declared.Card.{Card}
 use Rattle.model.specs.declared.Function.{Function}
 use Rattle.model.specs.declared.Shape.{Shape}
-use Rattle.model.specs.Shape.{shapeOf, tableBytes, pendingBytes}
+use Rattle.model.specs.Shape.{shapeOf, tableBytes}
 use Rattle.model.specs.Registers.{startedConfig, startedTable}
 use Rattle.model.specs.World.{Endpoint, functionOf, endpointOf, zeroFunction}
 use Rattle.model.specs.Start.{Given, startRefusal, started}

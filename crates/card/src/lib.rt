@@ -2,6 +2,7 @@
 pub mod access;
 pub mod held;
 pub mod outcome;
+pub mod restore;
 pub mod save;
 pub mod settle;
 pub mod sound;
