@@ -105,68 +105,78 @@ module _ (l : List ℕ) (long : 294 ≤ length l) (b : Bool) (e : b ≡ same (ta
     other-version card t p r h q =
         restore-refused card t p l r 21 (rw (le-ltb (length l) 294 long, ← e, not-false b y, ← d, ne-eqb v 1 h)) refl q
 
-    module _ (one : v ≡ 1) where
-      pub is-image : (same (take 3 l) mark ≡ true) × (word16 l 3 ≡ 1)
-      is-image = (sym e ∙ not-false b y, sym d ∙ one)
+    pub is-image : v ≡ 1 → (same (take 3 l) mark ≡ true) × (word16 l 3 ≡ 1)
+    is-image one = (sym e ∙ not-false b y, sym d ∙ one)
 
-      -- the rows behind these
-      later : (m n : ℕ) → restoreRefusal l m n
-          ≡ firstOf ((22, not (isSaved l)) ∷ (17, not (eqb m (length (worldIn l .endpoint .table))) || not (eqb n (length (worldIn l .endpoint .pending)))) ∷ [])
-      unfolding restoreRefusal firstOf
-      later m n = rw (le-ltb (length l) 294 long, is-image .0, is-image .1)
+-- an image that passed these checks
+module _ (l : List ℕ) (long : 294 ≤ length l) (i : (same (take 3 l) mark ≡ true) × (word16 l 3 ≡ 1)) where
+  -- the checks behind them
+  later : (m n : ℕ) → restoreRefusal l m n
+      ≡ firstOf ((22, not (isSaved l)) ∷ (17, not (eqb m (length (worldIn l .endpoint .table))) || not (eqb n (length (worldIn l .endpoint .pending)))) ∷ [])
+  unfolding restoreRefusal firstOf
+  later m n = rw (le-ltb (length l) 294 long, i .0, i .1)
 
-      module _ (a : Bool) (s : a ≡ isSaved l) where
-        -- 22
-        pub not-saved : (card : Card) (t p : List ℕ) (r : Outcome) → not a ≡ true → r ≡ refusedWith card 22 → after r t p [] ≡ restoreOf (worldOf card t p) l
+  -- 22
+  pub not-saved : (a : Bool) → a ≡ isSaved l → (card : Card) (t p : List ℕ) (r : Outcome) → not a ≡ true → r ≡ refusedWith card 22
+      → after r t p [] ≡ restoreOf (worldOf card t p) l
+  unfolding firstOf
+  not-saved a s card t p r h q = restore-refused card t p l r 22 (later (length t) (length p) ∙ rw (← s, not-true a h)) refl q
+
+-- one that passed 22, too: the card that it holds, and the length of its table
+pub record Saved (l : List ℕ) (card : Card) (n : ℕ) : Type 0 where
+  pub long : 294 ≤ length l
+  pub image : (same (take 3 l) mark ≡ true) × (word16 l 3 ≡ 1)
+  pub saved : isSaved l ≡ true
+  pub isCard : card ≡ cardOf (worldIn l)
+  pub isLength : n ≡ tableBytes (shapeOf (card .function .config))
+
+module _ (l : List ℕ) (card′ : Card) (n : ℕ) (k : Saved l card′ n) where
+  same-world : worldOf card′ (take n (drop 294 l)) (drop n (drop 294 l)) ≡ worldIn l
+  same-world = held l card′ n (k .isCard) (k .isLength)
+
+  pub room : 294 + n ≤ length l
+  unfolding isSaved
+  room = whole l card′ n (k .isCard) (k .isLength) (k .long) (both (sound (worldIn l)) (same (imageOf (worldIn l)) l) (k .saved) .0)
+
+  table-is : length (worldIn l .endpoint .table) ≡ n
+  table-is =
+      let h : n ≤ length (drop 294 l) = rw length-drop (omega (arith, room)) in
+      ap (λ (w : World). length (w .endpoint .table)) (sym same-world) ∙ length-take-le n (drop 294 l) h
+
+  pending-is : length (worldIn l .endpoint .pending) ≡ length l - 294 - n
+  pending-is =
+      ap (λ (w : World). length (w .endpoint .pending)) (sym same-world) ∙ length-drop n (drop 294 l) ∙ ap (λ (m : ℕ). m - n) (length-drop 294 l)
+
+  buffers : (i j : ℕ) → restoreRefusal l i j ≡ firstOf ((17, not (eqb i n) || not (eqb j (length l - 294 - n))) ∷ [])
+  unfolding firstOf
+  buffers i j = later l (k .long) (k .image) i j ∙ rw (k .saved, table-is, pending-is)
+
+  -- 17
+  module _ (card : Card) (t p : List ℕ) where
+    pub other-table : (r : Outcome) → (length t ≡ n → ⊥) → r ≡ refusedWith card 17 → after r t p [] ≡ restoreOf (worldOf card t p) l
+    unfolding firstOf
+    other-table r h q = restore-refused card t p l r 17 (buffers (length t) (length p) ∙ rw (ne-eqb (length t) n h)) refl q
+
+    module _ (f : length t ≡ n) where
+      pub other-pending : (r : Outcome) → (length p ≡ length l - 294 - n → ⊥) → r ≡ refusedWith card 17 → after r t p [] ≡ restoreOf (worldOf card t p) l
+      unfolding firstOf
+      other-pending r h q =
+          restore-refused card t p l r 17
+          (buffers (length t) (length p) ∙ rw (eq-eqb (length t) n f, ne-eqb (length p) (length l - 294 - n) h)) refl q
+
+      -- accepted: the buffers are filled
+      module _ (g : length p ≡ length l - 294 - n) where
+        pub filled : length l ≡ imageSize (length t) (length p)
+        filled = omega (arith, room, f, g)
+
+        no-refusal : restoreRefusal l (length t) (length p) ≡ 0
         unfolding firstOf
-        not-saved card t p r h q = restore-refused card t p l r 22 (later (length t) (length p) ∙ rw (← s, not-true a h)) refl q
+        no-refusal = buffers (length t) (length p) ∙ rw (eq-eqb (length t) n f, eq-eqb (length p) (length l - 294 - n) g)
 
-        module _ (x : not a ≡ false) (card′ : Card) (n : ℕ) (c : card′ ≡ cardOf (worldIn l)) (k : n ≡ tableBytes (shapeOf (card′ .function .config))) where
-          saved : isSaved l ≡ true
-          saved = sym s ∙ not-false a x
-
-          pub room : 294 + n ≤ length l
-          unfolding isSaved
-          room = whole l card′ n c k long (both (sound (worldIn l)) (same (imageOf (worldIn l)) l) saved .0)
-
-          table-is : length (worldIn l .endpoint .table) ≡ n
-          table-is =
-              let h : n ≤ length (drop 294 l) = rw length-drop (omega (arith, room)) in
-              ap (λ (w : World). length (w .endpoint .table)) (sym (held l card′ n c k)) ∙ length-take-le n (drop 294 l) h
-
-          pending-is : length (worldIn l .endpoint .pending) ≡ length l - 294 - n
-          pending-is =
-              ap (λ (w : World). length (w .endpoint .pending)) (sym (held l card′ n c k)) ∙ length-drop n (drop 294 l)
-              ∙ ap (λ (m : ℕ). m - n) (length-drop 294 l)
-
-          buffers : (i j : ℕ) → restoreRefusal l i j ≡ firstOf ((17, not (eqb i n) || not (eqb j (length l - 294 - n))) ∷ [])
-          unfolding firstOf
-          buffers i j = later i j ∙ rw (saved, table-is, pending-is)
-
-          -- 17
-          pub other-table : (card : Card) (t p : List ℕ) (r : Outcome) → (length t ≡ n → ⊥) → r ≡ refusedWith card 17 → after r t p [] ≡ restoreOf (worldOf card t p) l
-          unfolding firstOf
-          other-table card t p r h q = restore-refused card t p l r 17 (buffers (length t) (length p) ∙ rw (ne-eqb (length t) n h)) refl q
-
-          module _ (card : Card) (t p : List ℕ) (f : length t ≡ n) where
-            pub other-pending : (r : Outcome) → (length p ≡ length l - 294 - n → ⊥) → r ≡ refusedWith card 17 → after r t p [] ≡ restoreOf (worldOf card t p) l
-            unfolding firstOf
-            other-pending r h q =
-                restore-refused card t p l r 17
-                (buffers (length t) (length p) ∙ rw (eq-eqb (length t) n f, ne-eqb (length p) (length l - 294 - n) h)) refl q
-
-            module _ (g : length p ≡ length l - 294 - n) where
-              pub filled : length l ≡ imageSize (length t) (length p)
-              filled = omega (arith, room, f, g)
-
-              no-refusal : restoreRefusal l (length t) (length p) ≡ 0
-              unfolding firstOf
-              no-refusal = buffers (length t) (length p) ∙ rw (eq-eqb (length t) n f, eq-eqb (length p) (length l - 294 - n) g)
-
-              pub restored : (t′ p′ : List ℕ) (r : Outcome) → t′ ≡ take (length t) (drop 294 l) → p′ ≡ drop (length t) (drop 294 l) → r ≡ acceptedWith card′ Done 0
-                  → after r t′ p′ [] ≡ restoreOf (worldOf card t p) l
-              unfolding restoreOf
-              restored t′ p′ r i j q =
-                  rw (q, i, j)
-                  (ap (λ (m : ℕ). accepted (worldOf card′ (take m (drop 294 l)) (drop m (drop 294 l))) Done [] []) f
-                  ∙ ap (λ (w : World). accepted w Done [] []) (held l card′ n c k) ∙ sym (answered-yes (restoreRefusal l (length t) (length p)) _ _ no-refusal))
+        pub restored : (t′ p′ : List ℕ) (r : Outcome) → t′ ≡ take (length t) (drop 294 l) → p′ ≡ drop (length t) (drop 294 l) → r ≡ acceptedWith card′ Done 0
+            → after r t′ p′ [] ≡ restoreOf (worldOf card t p) l
+        unfolding restoreOf
+        restored t′ p′ r i j q =
+            rw (q, i, j)
+            (ap (λ (m : ℕ). accepted (worldOf card′ (take m (drop 294 l)) (drop m (drop 294 l))) Done [] []) f
+            ∙ ap (λ (w : World). accepted w Done [] []) same-world ∙ sym (answered-yes (restoreRefusal l (length t) (length p)) _ _ no-refusal))

@@ -1,7 +1,7 @@
 // The card that an image holds, and whether a sound card saves that image.
 ghost use mathlib.Core.Path.{_≡_};
-ghost use Prim.Native.Nat.{_≤_};
 ghost use mathlib.Core.Bool.{true};
+ghost use Prim.Native.Nat.{_≤_};
 ghost use lib.ListN.{length, take};
 ghost use Rattle.words.specs.Lists.{same};
 ghost use Rattle.words.specs.Bytes.{word16};
@@ -33,7 +33,7 @@ pub fn table_length(card: Card) -> usize
     layout::start::table_bytes(s)
 }
 
-// Whether a sound card saves an image with the mark and version 1: the card that it holds, with n bytes of table.
+// Whether a sound card saves this image, which has the mark and version 1: the card is the one that it holds, with n bytes of table.
 pub fn is_saved(image: &[u8], card: Card, n: usize) -> bool
     requires { ⌜ (294 ≤ length (now image)) × (same (take 3 (now image)) mark ≡ true) × (word16 (now image) 3 ≡ 1)
         × (card ≡ cardOf (worldIn (now image))) × (n ≡ tableBytes (shapeOf (card .function .config))) × (n ≤ 32768) ⌝ }
