@@ -6,3 +6,7 @@ pub mod CallsFor
 pub mod ConfigFor
 pub mod LineFor
 pub mod EventFor
+pub mod StartFor
+pub mod SaveFor
+pub mod RestoreFor
+pub mod ResetFor

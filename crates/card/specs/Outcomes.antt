@@ -1,5 +1,5 @@
 -- The code's outcome of a call, and the definitions' outcome that it stands for. Assumes nothing.
-use mathlib.Core.Bool.{Bool, cond}
+use mathlib.Core.Bool.{false, cond}
 use mathlib.Core.List.{List}
 use lib.Dec.{ltb}
 use lib.ListN.{length}
@@ -9,7 +9,7 @@ use Rattle.model.specs.declared.Answer.the-variants.{Refused, Done, Sent}
 use Rattle.model.specs.declared.Card.{Card}
 use Rattle.model.specs.declared.Mode.{Mode}
 use Rattle.model.specs.declared.Shape.{Shape}
-use Rattle.model.specs.World.{World, Endpoint, registers, worldOf}
+use Rattle.model.specs.World.{World, Endpoint, registers, worldOf, zeroFunction}
 use Rattle.model.specs.Packets.{messageOf}
 use Rattle.model.specs.Release.{Raised, settled, settleBytes}
 use Rattle.model.specs.Calls as Calls
@@ -21,19 +21,13 @@ refusedWith card n = record { card = card; answer = Refused n; count = 0 }
 abbrev pub acceptedWith : Card → Answer → ℕ → Outcome
 acceptedWith card answer count = record { card = card; answer = answer; count = count }
 
+-- the card of a refused start
+abbrev pub zeroCard : Card
+zeroCard = record { function = zeroFunction; wire = false }
+
 -- a result with the later contents of table, pending array and output
 abbrev pub after : Outcome → (table pending output : List ℕ) → Calls.Outcome
 after r table pending output = record { world = worldOf (r .card) table pending; answer = r .answer; count = r .count; output = output }
-
--- calls whose names are those of functions
-abbrev pub lineCall : Bool → List ℕ → Calls.Call
-lineCall = Calls.line
-
-abbrev pub eventCall : ℕ → List ℕ → Calls.Call
-eventCall = Calls.event
-
-abbrev pub resetCall : List ℕ → Calls.Call
-resetCall = Calls.reset
 
 -- a changed function u of shape s on the card of world w: 6 where its packets are longer than the output, else the packets and the settled world
 unfoldable pub settleOf : Card → Shape → Endpoint → World → List ℕ → Calls.Outcome

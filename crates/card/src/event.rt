@@ -9,9 +9,9 @@ ghost use Rattle.model.specs.Fit.{Fit};
 ghost use Rattle.model.specs.World.{endpointOf, worldOf};
 ghost use Rattle.model.specs.Vectors.{vectorCount, changeWaiting};
 ghost use Rattle.model.specs.Release.{raiseVector};
-ghost use Rattle.model.specs.Calls.{step};
+ghost use Rattle.model.specs.Calls.{step, event};
 ghost use Rattle.vectors.specs.Given.{FitShape};
-ghost use Rattle.card.specs.Outcomes.{after, sentBy, raiseOf, eventCall};
+ghost use Rattle.card.specs.Outcomes.{after, sentBy, raiseOf};
 use crate::outcome::Outcome;
 use crate::outcome::accepted;
 use crate::outcome::refused;
@@ -83,7 +83,7 @@ fn raise(
 
 // Event `number`: its vector is sent, held or merged; with the pin in force the event is lost.
 pub fn event(card: Card, table: &[u8], pending: &mut [u8], number: u16, out: &mut [u8]) -> Outcome
-    ensures { λ r. ⌜ after r (now (table .entry)) (now (pending .exit)) (now (out .exit)) ≡ step (worldOf card (now (table .entry)) (now (pending .entry))) (eventCall number (now (out .entry))) ⌝ }
+    ensures { λ r. ⌜ after r (now (table .entry)) (now (pending .exit)) (now (out .exit)) ≡ step (worldOf card (now (table .entry)) (now (pending .entry))) (event number (now (out .entry))) ⌝ }
 {
     let checked = crate::sound::check(card, table, pending);
     if !checked.sound {

@@ -1,8 +1,8 @@
 // The line call.
 ghost use mathlib.Core.Path.{_≡_};
 ghost use Rattle.model.specs.World.{worldOf};
-ghost use Rattle.model.specs.Calls.{step};
-ghost use Rattle.card.specs.Outcomes.{after, lineCall};
+ghost use Rattle.model.specs.Calls.{step, line};
+ghost use Rattle.card.specs.Outcomes.{after};
 use crate::outcome::Outcome;
 use crate::outcome::accepted;
 use crate::outcome::refused;
@@ -11,7 +11,7 @@ use model::Card;
 
 // Sets the line: at most the wire's packet is sent. The level that it already has is accepted, too.
 pub fn line(card: Card, table: &[u8], pending: &[u8], level: bool, out: &mut [u8]) -> Outcome
-    ensures { λ r. ⌜ after r (now (table .entry)) (now (pending .entry)) (now (out .exit)) ≡ step (worldOf card (now (table .entry)) (now (pending .entry))) (lineCall level (now (out .entry))) ⌝ }
+    ensures { λ r. ⌜ after r (now (table .entry)) (now (pending .entry)) (now (out .exit)) ≡ step (worldOf card (now (table .entry)) (now (pending .entry))) (line level (now (out .entry))) ⌝ }
 {
     let checked = crate::sound::check(card, table, pending);
     if !checked.sound {
