@@ -1,3 +1,5 @@
 pub mod WireLaws
 pub mod AccessLaws
 pub mod SoundFor
+pub mod OutcomeLaws
+pub mod ReadFor
