@@ -3,3 +3,4 @@ pub mod AccessLaws
 pub mod SoundFor
 pub mod OutcomeLaws
 pub mod ReadFor
+pub mod BarFor
