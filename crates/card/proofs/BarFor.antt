@@ -4,17 +4,15 @@ use mathlib.Core.Bool.{Bool, true, false, not, _||_}
 use mathlib.Core.List.{List, [], _∷_}
 use Prim.Native.Nat.{ℕ, _+_, _%_, _≤_}
 use native.Mathlib.Omega.{arith}
-use borrow.Author.Tests.{not-false}
 use lib.ListN.{length}
 use Rattle.words.specs.Lists.{firstOf}
 use Rattle.words.specs.Bytes.{number}
 use Rattle.words.proofs.BoolLaws.{row-passes, row-refuses}
-use Rattle.model.specs.declared.Answer.{Answer}
 use Rattle.model.specs.declared.Answer.the-variants.{Value}
 use Rattle.model.specs.declared.Card.{Card}
 use Rattle.model.specs.declared.Shape.{Shape}
 use Rattle.model.specs.Fit.{Fit}
-use Rattle.model.specs.World.{World, Endpoint, registers, worldOf, zeroFunction, endpointOf}
+use Rattle.model.specs.World.{Endpoint, registers, worldOf, zeroFunction, endpointOf}
 use Rattle.model.specs.Vectors.{commandBit}
 use Rattle.model.specs.Registers.{inTable, inPending, barByte}
 use Rattle.model.specs.Sound.{sound, shape}

@@ -4,3 +4,6 @@ pub mod SoundFor
 pub mod OutcomeLaws
 pub mod ReadFor
 pub mod BarFor
+pub mod EntryFor
+pub mod WriteFor
+pub mod BarWriteFor

@@ -1,18 +1,17 @@
 -- The ways out of a call, as the code hands them back. Assumes nothing.
-use mathlib.Core.Path.{_≡_, refl, sym, ap, _∙_}
+use mathlib.Core.Path.{_≡_, sym, ap, _∙_}
 use mathlib.Core.Bool.{Bool, true, false, not}
-use mathlib.Core.List.{List, []}
+use mathlib.Core.List.{List}
 use Prim.Native.Nat.{ℕ}
 use lib.Dec.{eqb}
 use Rattle.words.specs.Lists.{firstOf}
-use Rattle.model.specs.declared.Answer.{Answer}
 use Rattle.model.specs.declared.Card.{Card}
-use Rattle.model.specs.World.{World, worldOf}
+use Rattle.model.specs.World.{worldOf}
 use Rattle.model.specs.Sound.{sound}
-use Rattle.model.specs.Calls.{Call, rows, next, sends, answerOf, outputOf, step}
-use Rattle.model.proofs.CallLaws.{step-unsound, step-row, step-accepted}
+use Rattle.model.specs.Calls.{Call, rows, outputOf, step}
+use Rattle.model.proofs.CallLaws.{step-unsound, step-row}
 use Rattle.card.specs.declared.outcome.Outcome.{Outcome}
-use Rattle.card.specs.Outcomes.{refusedWith, acceptedWith, after}
+use Rattle.card.specs.Outcomes.{refusedWith, after}
 use Rattle.card.proofs.SoundFor.{is-sound-now, not-sound-now}
 
 -- a test b of the card

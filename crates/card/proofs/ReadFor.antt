@@ -1,20 +1,17 @@
 -- The calls that read. Assumes nothing.
 use mathlib.Core.Path.{_≡_, refl, sym, ap, _∙_}
 use mathlib.Core.Bool.{Bool, true, false, not}
-use mathlib.Core.List.{List, [], _∷_}
+use mathlib.Core.List.{List, []}
 use Prim.Native.Nat.{ℕ, _+_, _≤_}
 use native.Mathlib.Omega.{arith}
-use lib.ListN.{length}
 use Rattle.words.specs.Lists.{firstOf}
 use Rattle.words.specs.Bytes.{number}
 use Rattle.words.proofs.BoolLaws.{row-passes, row-refuses}
-use Rattle.model.specs.declared.Answer.{Answer}
 use Rattle.model.specs.declared.Answer.the-variants.{Value}
 use Rattle.model.specs.declared.Card.{Card}
-use Rattle.model.specs.declared.Form.{Form}
 use Rattle.model.specs.declared.Shape.{Shape}
 use Rattle.model.specs.Shape.{formOf}
-use Rattle.model.specs.World.{World, Endpoint, worldOf, endpointOf}
+use Rattle.model.specs.World.{worldOf, endpointOf}
 use Rattle.model.specs.Registers.{storedZero, shown}
 use Rattle.model.specs.Sound.{sound, shape, zeroBits}
 use Rattle.model.specs.Calls.{configRead, rows, next, sends, answerOf, outputOf, badConfig, step}

@@ -1,6 +1,5 @@
 use denote.Ref.{now}
 use mathlib.Core.Path.{refl}
-use Rattle.model.specs.World.{worldOf}
 use Rattle.model.specs.Calls.{barRead, outputOf, rows}
 use Rattle.card.proofs.OutcomeLaws.{out-unsound}
 use Rattle.card.proofs.BarFor.{bar-fit, bar-refused, bar-no-memory, bar-asks, bar-read-value}

@@ -1,5 +1,4 @@
 use denote.Ref.{now}
-use Rattle.model.specs.World.{worldOf}
 use Rattle.model.specs.Calls.{configRead, outputOf}
 use Rattle.card.proofs.OutcomeLaws.{out-unsound}
 use Rattle.card.proofs.ReadFor.{config-read-refused, config-read-asks, config-read-value}
