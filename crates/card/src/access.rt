@@ -2,7 +2,11 @@
 ghost use mathlib.Core.Path.{_≡_};
 ghost use mathlib.Core.Bool.{_||_};
 ghost use lib.Dec.{eqb};
-ghost use Rattle.model.specs.Calls.{badConfig};
+ghost use Prim.Native.Nat.{_≤_};
+ghost use Rattle.model.specs.Calls.{badConfig, badBar};
+use model::Shape;
+use registers::bar::in_pending;
+use registers::bar::in_table;
 
 // A configuration access has 1, 2 or 4 bytes.
 pub fn is_config_width(width: u8) -> bool
@@ -31,4 +35,34 @@ pub fn bad_config(offset: u16, width: u8) -> bool
         return true;
     }
     255 < offset
+}
+
+// An access of a BAR has 4 or 8 bytes.
+pub fn is_bar_width(width: u8) -> bool
+    ensures { λ r. ⌜ r ≡ (eqb width 4 || eqb width 8) ⌝ }
+{
+    if width == 4 {
+        return true;
+    }
+    width == 8
+}
+
+// Refusal 4: BAR above 5, width not 4 or 8, offset not a multiple, or outside table and pending array.
+pub fn bad_bar(s: Shape, bar: u8, offset: u32, width: u8) -> bool
+    requires { ⌜ s .msix .vectors ≤ 2048 ⌝ }
+    ensures { λ r. ⌜ r ≡ badBar s bar offset width ⌝ }
+{
+    if 5 < bar {
+        return true;
+    }
+    if !is_bar_width(width) {
+        return true;
+    }
+    if offset % (width as u32) != 0 {
+        return true;
+    }
+    if in_table(s, bar, offset) {
+        return false;
+    }
+    !in_pending(s, bar, offset)
 }

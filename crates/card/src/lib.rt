@@ -1,7 +1,11 @@
 // The card: its wire, and the public calls.
 pub mod access;
+pub mod bar_read;
+pub mod bar_write;
 pub mod changed;
+pub mod config_read;
 pub mod config_write;
+pub mod entry;
 pub mod event;
 pub mod held;
 pub mod line;
