@@ -25,7 +25,7 @@ use Rattle.registers.proofs.BarLaws.{bar-value-buffers}
 use Rattle.card.specs.declared.outcome.Outcome.{Outcome}
 use Rattle.card.specs.Outcomes.{refusedWith, acceptedWith, after}
 use Rattle.card.proofs.SoundFor.{is-sound-now}
-use Rattle.card.proofs.OutcomeLaws.{out-row}
+use Rattle.card.proofs.CallsFor.{refused-row}
 
 -- the rows of a read and of a write
 abbrev pub barRows : Endpoint → (bar offset width : ℕ) → List (ℕ × Bool)
@@ -40,13 +40,13 @@ module _ (card : Card) (t p : List ℕ) (k : Bool) (e : k ≡ sound (worldOf car
   module _ (b o n : ℕ) (g : Bool) (d : g ≡ badBar s b o n) where
     module _ (c : Call) (j : rows (worldOf card t p .endpoint) c ≡ barRows (worldOf card t p .endpoint) b o n) (r : Outcome) where
       pub bar-refused : g ≡ true → r ≡ refusedWith card 4 → after r t p (outputOf c) ≡ step (worldOf card t p) c
-      bar-refused f q = out-row card t p c r k e 4 h (ap firstOf j ∙ row-refuses 4 _ (ap (λ (s : Shape). badBar s b o n) (sym z) ∙ sym d ∙ f)) refl q
+      bar-refused f q = refused-row card t p (outputOf c) c refl k e h 4 r (ap firstOf j ∙ row-refuses 4 _ (ap (λ (s : Shape). badBar s b o n) (sym z) ∙ sym d ∙ f)) refl q
 
       pub bar-no-memory : (m : Bool) → g ≡ false → m ≡ commandBit (registers (worldOf card t p .endpoint)) 1 → not m ≡ true → r ≡ refusedWith card 5
           → after r t p (outputOf c) ≡ step (worldOf card t p) c
       unfolding noMemory
       bar-no-memory m f v l q =
-          out-row card t p c r k e 5 h
+          refused-row card t p (outputOf c) c refl k e h 5 r
           (ap firstOf j ∙ row-passes 4 _ (ap (λ (s : Shape). badBar s b o n) (sym z) ∙ sym d ∙ f) ∙ row-refuses 5 _ (ap not (sym v) ∙ l)) refl q
 
     module _ (f : g ≡ false) where

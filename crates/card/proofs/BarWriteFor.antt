@@ -1,15 +1,15 @@
 -- The call that writes a BAR, where it is not refused. Assumes nothing.
-use mathlib.Core.Path.{_≡_, sym, ap, ap₂, _∙_}
+use mathlib.Core.Path.{_≡_, refl, sym, ap, ap₂, _∙_}
 use mathlib.Core.Bool.{Bool, true, false, not, _&&_}
 use mathlib.Core.List.{List, [], _++_}
 use Prim.Native.Nat.{ℕ, _+_, _-_, _%_, _≤_, _<_}
 use native.Mathlib.Omega.{arith}
-use lib.Dec.{ltb, eqb}
+use lib.Dec.{eqb}
 use lib.ListN.{length}
-use borrow.Author.Tests.{ltb-true, ltb-false, not-true, not-false}
+use borrow.Author.Tests.{not-true, not-false}
 use Rattle.words.specs.Lists.{within, firstOf}
 use Rattle.words.specs.Bytes.{bytesOf}
-use Rattle.words.proofs.BoolLaws.{both, by-test}
+use Rattle.words.proofs.BoolLaws.{both}
 use Rattle.words.proofs.ListLaws.{within-true}
 use Rattle.model.specs.declared.Answer.the-variants.{Done}
 use Rattle.model.specs.declared.Card.{Card}
@@ -21,8 +21,7 @@ use Rattle.model.specs.Vectors.{commandBit}
 use Rattle.model.specs.Release.{settleBytes, wireChange}
 use Rattle.model.specs.Sound.{sound, shape}
 use Rattle.model.specs.Calls as Calls
-use Rattle.model.specs.Calls.{Call, barWrite, rows, changed, next, sends, answerOf, outputOf, badBar, step, accepted}
-use Rattle.model.proofs.CallLaws.{step-short, step-accepted}
+use Rattle.model.specs.Calls.{barWrite, rows, changed, outputOf, badBar, step, accepted}
 use Rattle.model.proofs.EventLaws.{swept-none, bytes-none, no-change}
 use Rattle.model.proofs.SoundLaws.{Sound, is-sound}
 use Rattle.registers.proofs.AccessLaws.{aligned, bar-access}
@@ -31,7 +30,9 @@ use Rattle.card.specs.Outcomes.{acceptedWith, after, settleOf}
 use Rattle.card.specs.Entries.{tableWritten}
 use Rattle.card.proofs.SoundFor.{is-sound-now}
 use Rattle.card.proofs.BarFor.{bar-fit, bar-passes}
-use Rattle.card.proofs.WriteFor.{settle-short, settle-room}
+use Rattle.card.proofs.SettleFor.{settle-room}
+use Rattle.card.proofs.CallsFor as CallsFor
+use Rattle.card.proofs.CallsFor.{bar-settles}
 
 -- a place in the table
 in-table : (s : Shape) (b o : ℕ) → inTable s b o ≡ true → (s .msix .table .at ≤ o) × (o < s .msix .table .at + tableBytes s)
@@ -70,15 +71,9 @@ module _ (card : Card) (t p out : List ℕ) (b o n x : ℕ) where
   step-settles : sound (worldOf card t p) ≡ true → firstOf (rows (worldOf card t p .endpoint) (barWrite b o n x out)) ≡ 0
       → step (worldOf card t p) (barWrite b o n x out)
       ≡ settleOf card (shapeOf (card .function .config)) (changed (worldOf card t p .endpoint) (barWrite b o n x out)) (worldOf card t p) out
-  unfolding sends next answerOf outputOf
+  unfolding outputOf
   step-settles k e =
-      let w : World = worldOf card t p in
-      let c : Call = barWrite b o n x out in
-      let s : Shape = shapeOf (card .function .config) in
-      let u : Endpoint = changed (w .endpoint) c in
-      by-test (ltb (length out) (length (settleBytes s (card .wire) u)))
-      (λ l. let h = ltb-true (length out) (length (settleBytes s (card .wire) u)) l in step-short w c k e h ∙ sym (settle-short card s u w out h))
-      (λ l. let h = ltb-false (length out) (length (settleBytes s (card .wire) u)) l in step-accepted w c k e h ∙ sym (settle-room card s u w out h))
+      sym (CallsFor.settles card t p (barWrite b o n x out) (bar-settles (worldOf card t p) b o n x out) (shapeOf (card .function .config)) (changed (worldOf card t p .endpoint) (barWrite b o n x out)) refl refl k e)
 
 -- ---- tests k of the card, whose shape is s, g of the access, m of Command bit 1, i of the place
 

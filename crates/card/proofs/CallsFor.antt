@@ -5,7 +5,7 @@ use mathlib.Core.List.{List}
 use Prim.Native.Nat.{ℕ, _≤_, _<_}
 use lib.Dec.{ltb, eqb}
 use lib.ListN.{length}
-use borrow.Author.Tests.{lt-ltb, le-ltb, ltb-true, ltb-false, not-true, not-false}
+use borrow.Author.Tests.{ltb-true, ltb-false, not-true, not-false}
 use Rattle.words.specs.Lists.{firstOf}
 use Rattle.words.proofs.BoolLaws.{by-test}
 use Rattle.model.specs.declared.Answer.{Answer}
@@ -15,10 +15,11 @@ use Rattle.model.specs.declared.Shape.{Shape}
 use Rattle.model.specs.World.{World, Endpoint, worldOf}
 use Rattle.model.specs.Release.{settled, settleBytes}
 use Rattle.model.specs.Sound.{shape, sound}
-use Rattle.model.specs.Calls.{Call, configWrite, line, rows, changed, next, sends, answerOf, outputOf, step}
+use Rattle.model.specs.Calls.{Call, configWrite, barWrite, line, accepted, rows, changed, next, sends, answerOf, outputOf, step}
 use Rattle.model.proofs.CallLaws.{step-unsound, step-row, step-short, step-accepted}
 use Rattle.card.specs.declared.outcome.Outcome.{Outcome}
 use Rattle.card.specs.Outcomes.{refusedWith, after, settleOf}
+use Rattle.card.proofs.SettleFor.{settle-refused, settle-room}
 
 -- a call c of a card with lent buffers t and p and output out, and the code's test b of its soundness
 module _ (card : Card) (t p out : List ℕ) (c : Call) (o : outputOf c ≡ out) (b : Bool) (e : b ≡ sound (worldOf card t p)) where
@@ -57,6 +58,10 @@ pub line-settles : (w : World) (level : Bool) (out : List ℕ) → Settles w (li
 unfolding next sends answerOf
 line-settles w level out = record { next = refl; sends = refl; answer = refl }
 
+pub bar-settles : (w : World) (b o n x : ℕ) (out : List ℕ) → Settles w (barWrite b o n x out)
+unfolding next sends answerOf
+bar-settles w b o n x out = record { next = refl; sends = refl; answer = refl }
+
 -- the code settled the function u of shape s
 module _ (card : Card) (t p : List ℕ) (c : Call) (z : Settles (worldOf card t p) c) (s : Shape) (u : Endpoint) (es : s ≡ shape (worldOf card t p .endpoint)) (eu : u ≡ changed (worldOf card t p .endpoint) c) where
   abbrev w : World
@@ -69,8 +74,12 @@ module _ (card : Card) (t p : List ℕ) (c : Call) (z : Settles (worldOf card t 
   world = ap₂ settled es eu ∙ sym (z .next)
 
   pub settles : sound w ≡ true → firstOf (rows (w .endpoint) c) ≡ 0 → settleOf card s u w (outputOf c) ≡ step w c
-  unfolding settleOf
   settles k f =
       by-test (ltb (length (outputOf c)) (length (sends w c)))
-      (λ h. rw (bytes, h) (sym (step-short w c k f (ltb-true (length (outputOf c)) (length (sends w c)) h))))
-      (λ h. rw (bytes, h, world) (rw (z .answer) at (sym (step-accepted w c k f (ltb-false (length (outputOf c)) (length (sends w c)) h)))))
+      (λ h.
+      let l = ltb-true (length (outputOf c)) (length (sends w c)) h in
+      settle-refused card s u w (outputOf c) (rw bytes l) ∙ sym (step-short w c k f l))
+      (λ h.
+      let l = ltb-false (length (outputOf c)) (length (sends w c)) h in
+      settle-room card s u w (outputOf c) (rw bytes l)
+      ∙ (λ i. accepted (world i) (sym (z .answer) i) (bytes i) (outputOf c)) ∙ sym (step-accepted w c k f l))

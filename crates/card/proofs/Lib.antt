@@ -6,7 +6,6 @@ pub mod ConfigFor
 pub mod EntryFor
 pub mod EventFor
 pub mod LineFor
-pub mod OutcomeLaws
 pub mod ReadFor
 pub mod ResetFor
 pub mod RestoreFor

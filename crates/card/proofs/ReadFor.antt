@@ -23,14 +23,14 @@ use Rattle.registers.proofs.ShownLaws.{value-function}
 use Rattle.card.specs.declared.outcome.Outcome.{Outcome}
 use Rattle.card.specs.Outcomes.{refusedWith, acceptedWith, after}
 use Rattle.card.proofs.SoundFor.{is-sound-now}
-use Rattle.card.proofs.OutcomeLaws.{out-row}
+use Rattle.card.proofs.CallsFor.{refused-row}
 
 -- ---- the configuration: tests b of the card, whose shape is s, and g of the access
 
 module _ (card : Card) (t p : List ℕ) (o n : ℕ) (b : Bool) (e : b ≡ sound (worldOf card t p)) (h : not b ≡ false) (g : Bool) (d : g ≡ badConfig o n) where
   pub config-read-refused : (r : Outcome) → g ≡ true → r ≡ refusedWith card 3 → after r t p [] ≡ step (worldOf card t p) (configRead o n)
   unfolding outputOf rows
-  config-read-refused r f q = out-row card t p (configRead o n) r b e 3 h (row-refuses 3 [] (sym d ∙ f)) refl q
+  config-read-refused r f q = refused-row card t p [] (configRead o n) refl b e h 3 r (row-refuses 3 [] (sym d ∙ f)) refl q
 
   module _ (f : g ≡ false) (s : Shape) (z : s ≡ shape (worldOf card t p .endpoint)) where
     pub config-read-asks : (o + n ≤ 256) × (n ≤ 4) × (s .msi .at + formOf s .size ≤ 256) × (zeroBits (storedZero s) (card .function .config) ≡ true)

@@ -26,6 +26,15 @@ use Rattle.card.specs.Outcomes.{refusedWith, acceptedWith, after, settle
 use Rattle.card.specs.Wires.{owedOf, bytesOwed, sizeOf}
 use Rattle.card.proofs.WireLaws.{owed-is, owed-length}
 
+module _ (card : Card) (s : Shape) (u : Endpoint) (w : World) (out : List ℕ) where
+  pub settle-refused : length out < length (settleBytes s (card .wire) u) → settleOf card s u w out ≡ Calls.refused w 6 out
+  unfolding settleOf
+  settle-refused h = rw (lt-ltb (length out) (length (settleBytes s (card .wire) u)) h)
+
+  pub settle-room : length (settleBytes s (card .wire) u) ≤ length out → settleOf card s u w out ≡ Calls.accepted (settled s u) Done (settleBytes s (card .wire) u) out
+  unfolding settleOf
+  settle-room h = rw (le-ltb (length out) (length (settleBytes s (card .wire) u)) h)
+
 -- a changed function u on a card, and the packet o that the wire owes
 module _ (card : Card) (s : Shape) (u : Endpoint) (o : Owed) (eo : o ≡ owedOf (card .wire) (wireDueOf s u)) where
   wire-bytes : bytesOwed o (u .function .requester) (pinNumber (registers u)) ≡ wireChange (u .function .requester) (registers u) (card .wire) (wireDueOf s u)
@@ -41,16 +50,8 @@ module _ (card : Card) (s : Shape) (u : Endpoint) (o : Owed) (eo : o ≡ owedOf 
         ap₂ _+_ (e₁ ∙ sym (owed-length o (u .function .requester) (pinNumber (registers u)))) e₂
         ∙ sym (length-append (bytesOwed o (u .function .requester) (pinNumber (registers u))) (sweepBytes s u)) ∙ ap length all-bytes
 
-    refused-short : (w : World) (out : List ℕ) → length out < first + rest → Calls.refused w 6 out ≡ settleOf card s u w out
-    unfolding settleOf
-    refused-short w out h = rw (lt-ltb (length out) (length (settleBytes s (card .wire) u)) (omega (arith, size-is)))
-
     pub settle-short : (t p out : List ℕ) (r : Outcome) → length out < first + rest → r ≡ refusedWith card 6 → after r t p out ≡ settleOf card s u (worldOf card t p) out
-    settle-short t p out r h er = ap (λ (x : Outcome). after x t p out) er ∙ refused-short (worldOf card t p) out h
-
-    settle-long : (w : World) (out : List ℕ) → first + rest ≤ length out → settleOf card s u w out ≡ Calls.accepted (settled s u) Done (settleBytes s (card .wire) u) out
-    unfolding settleOf
-    settle-long w out h = rw (le-ltb (length out) (length (settleBytes s (card .wire) u)) (omega (arith, size-is)))
+    settle-short t p out r h er = ap (λ (x : Outcome). after x t p out) er ∙ sym (settle-refused card s u (worldOf card t p) out (omega (arith, size-is)))
 
     pub settle-done : (w : World) (out o₁ ys p′ : List ℕ) (at pin : ℕ) (sent : Sent) (level : Bool) (g : Function) (r : Outcome)
         → first + rest ≤ length out → pin ≡ pinNumber (registers u) → Wrote (bytesOwed o (u .function .requester) pin) out at o₁
@@ -66,4 +67,4 @@ module _ (card : Card) (s : Shape) (u : Endpoint) (o : Owed) (eo : o ≡ owedOf 
         ∙ ap (λ (v : Endpoint). record { endpoint = v; wire = wireDueOf s u }) (b .left) in
         ap (λ (x : Outcome). after x (u .table) p′ (putMid at (length o₁ - at) o₁ ys)) er
         ∙ (λ i. record { world = world i; answer = Done; count = (both .count ∙ ap length bytes) i; output = (both .bytes ∙ ap (λ (l : List ℕ). over l out) bytes) i })
-        ∙ sym (settle-long w out h)
+        ∙ sym (settle-room card s u w out (omega (arith, size-is)))

@@ -5,7 +5,7 @@ use mathlib.Core.List.{List, [], _++_}
 use Prim.Native.Nat.{ℕ, _+_, _*_, _/_, _%_, _≤_, _<_}
 use native.Mathlib.Omega.{arith}
 use lib.ListN.{length, set}
-use borrow.Author.Tests.{lt-ltb, le-ltb, not-true, not-false}
+use borrow.Author.Tests.{not-true, not-false}
 use Rattle.words.specs.Bits.{clearBit}
 use Rattle.words.specs.Bytes.{byte, bytesOf}
 use Rattle.words.specs.Writers.{over, Wrote}
@@ -22,7 +22,7 @@ use Rattle.model.specs.Vectors.{isOpen, waits, changeWaiting}
 use Rattle.model.specs.Packets.{message, messageSize, messageOf}
 use Rattle.model.specs.Release.{settled, settleBytes, wireChange, wireDueOf}
 use Rattle.model.specs.Sound.{sound, shape}
-use Rattle.model.specs.Calls.{refused, accepted}
+use Rattle.model.specs.Calls.{accepted}
 use Rattle.model.proofs.BarLaws.{bar-swept, bar-bytes, bar-wire}
 use Rattle.model.proofs.EventLaws.{no-change}
 use Rattle.model.proofs.FitLaws.{sound-fit}
@@ -34,18 +34,8 @@ use Rattle.vectors.proofs.FitShapeLaws.{fit-shape}
 use Rattle.card.specs.declared.outcome.Outcome.{Outcome}
 use Rattle.card.specs.Outcomes.{refusedWith, acceptedWith, after, settleOf}
 use Rattle.card.specs.Entries.{IsEntry, tableWritten}
+use Rattle.card.proofs.SettleFor.{settle-refused, settle-room}
 use Rattle.card.proofs.EntryFor.{entry-message}
-
--- ---- the ways out of what follows a change
-
-module _ (card : Card) (s : Shape) (u : Endpoint) (w : World) (out : List ℕ) where
-  pub settle-short : length out < length (settleBytes s (card .wire) u) → settleOf card s u w out ≡ refused w 6 out
-  unfolding settleOf
-  settle-short h = rw (lt-ltb (length out) (length (settleBytes s (card .wire) u)) h)
-
-  pub settle-room : length (settleBytes s (card .wire) u) ≤ length out → settleOf card s u w out ≡ accepted (settled s u) Done (settleBytes s (card .wire) u) out
-  unfolding settleOf
-  settle-room h = rw (le-ltb (length out) (length (settleBytes s (card .wire) u)) h)
 
 -- ---- n bytes at place `at` of the table of a sound card with shape s
 
@@ -151,7 +141,7 @@ module _ (card : Card) (t p : List ℕ) (s : Shape) (k : sound (worldOf card t p
         room = ap length sent ∙ message-length (card .function .requester) (m .upper) (m .address) (m .value) ∙ sym c
 
         pub write-short : length out < size → r ≡ refusedWith card 6 → after r t p out ≡ settleOf card s u′ (worldOf card t p) out
-        write-short l q = (λ i. after (q i) t p out) ∙ sym (settle-short card s u′ (worldOf card t p) out (omega (arith, room)))
+        write-short l q = (λ i. after (q i) t p out) ∙ sym (settle-refused card s u′ (worldOf card t p) out (omega (arith, room)))
 
         pub write-sent : (t₁ p₁ o₁ : List ℕ) (count : ℕ) → size ≤ length out → t₁ ≡ t′
             → p₁ ≡ set p (at / 16 / 8) (clearBit (byte p (at / 16 / 8)) (at / 16 % 8)) → Wrote packet out count o₁ → r ≡ acceptedWith card Done count

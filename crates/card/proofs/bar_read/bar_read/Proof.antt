@@ -1,7 +1,7 @@
 use denote.Ref.{now}
 use mathlib.Core.Path.{refl}
 use Rattle.model.specs.Calls.{barRead, outputOf, rows}
-use Rattle.card.proofs.OutcomeLaws.{out-unsound}
+use Rattle.card.proofs.CallsFor.{refused-unsound}
 use Rattle.card.proofs.BarFor.{bar-fit, bar-refused, bar-no-memory, bar-asks, bar-read-value}
 use borrow.Author.Needs.{needs}
 use Rattle.card.proofs.bar_read.bar_read.Statement.{statement}
@@ -15,7 +15,7 @@ refused-requires c κs = search needs
 
 returns : tie.Need-returns
 unfolding outputOf
-returns c = out-unsound (c .before .before .before .before .before .before .args .card) (now (c .before .before .before .before .before .before .args .table)) (now (c .before .before .before .before .before .before .args .pending)) (barRead (c .before .before .before .before .before .before .args .bar) (c .before .before .before .before .before .before .args .offset) (c .before .before .before .before .before .before .args .width)) _ _ (c .before .before .before .check .ensures .1) (c .before .if1 .taken) (c .refused .ensures)
+returns c = refused-unsound (c .before .before .before .before .before .before .args .card) (now (c .before .before .before .before .before .before .args .table)) (now (c .before .before .before .before .before .before .args .pending)) _ (barRead (c .before .before .before .before .before .before .args .bar) (c .before .before .before .before .before .before .args .offset) (c .before .before .before .before .before .before .args .width)) refl _ (c .before .before .before .check .ensures .1) _ (c .before .if1 .taken) (c .refused .ensures)
 
 bad-bar-requires : tie.Need-bad-bar-requires
 bad-bar-requires c κs = bar-fit (c .before .before .before .before .before .before .args .card) (now (c .before .before .before .before .before .before .args .table)) (now (c .before .before .before .before .before .before .args .pending)) _ (c .before .before .before .check .ensures .1) (c .before .if1 .left) _ (c .before .before .before .check .ensures .0) .few

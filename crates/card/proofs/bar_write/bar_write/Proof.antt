@@ -1,7 +1,7 @@
 use denote.Ref.{now}
 use mathlib.Core.Path.{refl}
 use Rattle.model.specs.Calls.{barWrite, outputOf, rows}
-use Rattle.card.proofs.OutcomeLaws.{out-unsound}
+use Rattle.card.proofs.CallsFor.{refused-unsound}
 use Rattle.card.proofs.BarFor.{bar-fit, bar-refused, bar-no-memory}
 use Rattle.card.proofs.BarWriteFor.{bar-write-place, bar-write-asks, bar-write-none, bar-write-table}
 use borrow.Author.Needs.{needs}
@@ -22,7 +22,7 @@ same-length-2 c = search needs
 
 returns : tie.Need-returns
 unfolding outputOf
-returns c = out-unsound (c .before .before .before .before .before .before .before .before .before .args .card) (now (c .before .before .before .before .before .before .before .before .before .args .table)) (now (c .before .before .before .before .before .before .before .before .before .args .pending)) (barWrite (c .before .before .before .before .before .before .before .before .before .args .bar) (c .before .before .before .before .before .before .before .before .before .args .offset) (c .before .before .before .before .before .before .before .before .before .args .width) (c .before .before .before .before .before .before .before .before .before .args .value) (now (c .before .before .before .before .before .before .before .before .before .args .out))) _ _ (c .before .before .before .check .ensures .1) (c .before .if1 .taken) (c .refused .ensures)
+returns c = refused-unsound (c .before .before .before .before .before .before .before .before .before .args .card) (now (c .before .before .before .before .before .before .before .before .before .args .table)) (now (c .before .before .before .before .before .before .before .before .before .args .pending)) _ (barWrite (c .before .before .before .before .before .before .before .before .before .args .bar) (c .before .before .before .before .before .before .before .before .before .args .offset) (c .before .before .before .before .before .before .before .before .before .args .width) (c .before .before .before .before .before .before .before .before .before .args .value) (now (c .before .before .before .before .before .before .before .before .before .args .out))) refl _ (c .before .before .before .check .ensures .1) _ (c .before .if1 .taken) (c .refused .ensures)
 
 bad-bar-requires : tie.Need-bad-bar-requires
 bad-bar-requires c κs = bar-fit (c .before .before .before .before .before .before .before .before .before .args .card) (now (c .before .before .before .before .before .before .before .before .before .args .table)) (now (c .before .before .before .before .before .before .before .before .before .args .pending)) _ (c .before .before .before .check .ensures .1) (c .before .if1 .left) _ (c .before .before .before .check .ensures .0) .few

@@ -1,6 +1,7 @@
+use mathlib.Core.Path.{refl}
 use denote.Ref.{now}
 use Rattle.model.specs.Calls.{configRead, outputOf}
-use Rattle.card.proofs.OutcomeLaws.{out-unsound}
+use Rattle.card.proofs.CallsFor.{refused-unsound}
 use Rattle.card.proofs.ReadFor.{config-read-refused, config-read-asks, config-read-value}
 use borrow.Author.Needs.{needs}
 use Rattle.card.proofs.config_read.config_read.Statement.{statement}
@@ -14,7 +15,7 @@ refused-requires c κs = search needs
 
 returns : tie.Need-returns
 unfolding outputOf
-returns c = out-unsound (c .before .before .before .before .before .before .args .card) (now (c .before .before .before .before .before .before .args .table)) (now (c .before .before .before .before .before .before .args .pending)) (configRead (c .before .before .before .before .before .before .args .offset) (c .before .before .before .before .before .before .args .width)) _ _ (c .before .before .before .check .ensures .1) (c .before .if1 .taken) (c .refused .ensures)
+returns c = refused-unsound (c .before .before .before .before .before .before .args .card) (now (c .before .before .before .before .before .before .args .table)) (now (c .before .before .before .before .before .before .args .pending)) _ (configRead (c .before .before .before .before .before .before .args .offset) (c .before .before .before .before .before .before .args .width)) refl _ (c .before .before .before .check .ensures .1) _ (c .before .if1 .taken) (c .refused .ensures)
 
 bad-config-requires : tie.Need-bad-config-requires
 bad-config-requires c κs = search needs
