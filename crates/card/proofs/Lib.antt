@@ -1,17 +1,3 @@
-pub mod AccessLaws
-pub mod BarFor
-pub mod BarWriteFor
 pub mod CallsFor
-pub mod ConfigFor
-pub mod EntryFor
-pub mod EventFor
-pub mod LineFor
-pub mod ReadFor
-pub mod ResetFor
-pub mod RestoreFor
-pub mod SaveFor
 pub mod SettleFor
 pub mod SoundFor
-pub mod StartFor
-pub mod WireLaws
-pub mod WriteFor

@@ -21,10 +21,10 @@ use Rattle.image.proofs.Writing.{behind}
 use Rattle.endpoint.specs.declared.sweep.Sent.{Sent}
 use Rattle.endpoint.specs.Sweeps.{Swept}
 use Rattle.card.specs.declared.outcome.Outcome.{Outcome}
-use Rattle.card.specs.declared.wire.Owed.{Owed}
+use Rattle.wire.specs.declared.Owed.{Owed}
 use Rattle.card.specs.Outcomes.{refusedWith, acceptedWith, after, settleOf}
-use Rattle.card.specs.Wires.{owedOf, bytesOwed, sizeOf}
-use Rattle.card.proofs.WireLaws.{owed-is, owed-length}
+use Rattle.wire.specs.Wires.{owedOf, bytesOwed, sizeOf}
+use Rattle.wire.proofs.WireLaws.{owed-is, owed-length}
 
 module _ (card : Card) (s : Shape) (u : Endpoint) (w : World) (out : List ℕ) where
   pub settle-refused : length out < length (settleBytes s (card .wire) u) → settleOf card s u w out ≡ Calls.refused w 6 out

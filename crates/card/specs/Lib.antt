@@ -1,3 +1,1 @@
 pub mod Outcomes
-pub mod Wires
-pub mod Entries

@@ -5,13 +5,11 @@ use lib.Dec.{ltb}
 use lib.ListN.{length}
 use Prim.Native.Nat.{ℕ}
 use Rattle.model.specs.declared.Answer.{Answer}
-use Rattle.model.specs.declared.Answer.the-variants.{Refused, Done, Sent}
+use Rattle.model.specs.declared.Answer.the-variants.{Refused, Done}
 use Rattle.model.specs.declared.Card.{Card}
-use Rattle.model.specs.declared.Mode.{Mode}
 use Rattle.model.specs.declared.Shape.{Shape}
-use Rattle.model.specs.World.{World, Endpoint, registers, worldOf, zeroFunction}
-use Rattle.model.specs.Packets.{messageOf}
-use Rattle.model.specs.Release.{Raised, settled, settleBytes}
+use Rattle.model.specs.World.{World, Endpoint, worldOf, zeroFunction}
+use Rattle.model.specs.Release.{settled, settleBytes}
 use Rattle.model.specs.Calls as Calls
 use Rattle.card.specs.declared.outcome.Outcome.{Outcome}
 
@@ -35,14 +33,3 @@ settleOf card s u w out =
     cond (ltb (length out) (length (settleBytes s (card .wire) u)))
     (Calls.refused w 6 out)
     (Calls.accepted (settled s u) Done (settleBytes s (card .wire) u) out)
-
--- an event on a card whose wire it leaves: 6 where its packet is longer than the output
-unfoldable pub raiseOf : World → Raised → List ℕ → Calls.Outcome
-raiseOf w r out =
-    cond (ltb (length out) (length (r .bytes)))
-    (Calls.refused w 6 out)
-    (Calls.accepted (record { endpoint = r .endpoint; wire = w .wire }) (r .answer) (r .bytes) out)
-
--- an event for an open vector
-abbrev pub sentBy : Mode → Shape → Endpoint → ℕ → Raised
-sentBy m s u v = record { endpoint = u; bytes = messageOf m s (u .function .requester) (registers u) v; answer = Sent }

@@ -1,20 +1,5 @@
-// The card: its wire, and the public calls.
-pub mod access;
-pub mod bar_read;
-pub mod bar_write;
+// What the calls share: outcomes, soundness, a changed function, and what follows a change.
 pub mod changed;
-pub mod config_read;
-pub mod config_write;
-pub mod entry;
-pub mod event;
-pub mod held;
-pub mod line;
 pub mod outcome;
-pub mod reset;
-pub mod restore;
-pub mod save;
 pub mod settle;
 pub mod sound;
-pub mod start;
-pub mod started;
-pub mod wire;

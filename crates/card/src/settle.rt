@@ -8,16 +8,16 @@ ghost use Rattle.vectors.specs.Given.{regs, FitShape};
 ghost use Rattle.model.specs.World.{endpointOf, worldOf};
 ghost use Rattle.model.specs.Ready.{Ready};
 ghost use Rattle.card.specs.Outcomes.{after, settleOf};
-ghost use Rattle.card.specs.Wires.{owedOf, wiring};
+ghost use Rattle.wire.specs.Wires.{owedOf, wiring};
 use crate::outcome::Outcome;
 use crate::outcome::accepted;
 use crate::outcome::refused;
-use crate::wire::Wired;
-use crate::wire::Wiring;
 use model::Answer;
 use model::Card;
 use model::Function;
 use model::Shape;
+use wire::Wired;
+use wire::Wiring;
 
 // The small state of the wire by the registers of a function.
 pub fn wiring(f: Function, wire: bool, s: Shape) -> Wiring
@@ -62,14 +62,14 @@ pub fn settle(
 {
     let wired = settle_wire(f, card.wire, s);
     let owed = wired.owed;
-    let first = crate::wire::owed_size(owed);
+    let first = wire::owed_size(owed);
     let rest = endpoint::sweep::owed_size(f, s, table, pending);
     if out.len() < first + rest {
         return refused(card, 6);
     }
     let config = f.config;
     let pin = vectors::wire::pin_number(&config);
-    let at = crate::wire::put_owed(out, owed, f.requester, pin);
+    let at = wire::put_owed(out, owed, f.requester, pin);
     let sent = endpoint::sweep::send_owed(f, s, table, pending, &mut out[at..]);
     let function = crate::changed::with_waiting(f, sent.waiting);
     let wire = wired.wiring.wire;

@@ -6,7 +6,7 @@ use Rattle.model.specs.World.{endpointOf, worldOf}
 use Rattle.model.proofs.BytesBound.{sweep-le}
 use Rattle.endpoint.proofs.ReadyFit.{ready-shape}
 use Rattle.card.proofs.SoundFor.{pin-small}
-use Rattle.card.proofs.WireLaws.{size-small, owed-length}
+use Rattle.wire.proofs.WireLaws.{size-small, owed-length}
 use Rattle.card.proofs.SettleFor.{settle-short, settle-done}
 use borrow.Author.Needs.{needs}
 use Rattle.card.proofs.settle.settle.Statement.{statement}

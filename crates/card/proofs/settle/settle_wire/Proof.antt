@@ -1,4 +1,4 @@
-use Rattle.card.proofs.WireLaws.{settled-mode}
+use Rattle.wire.proofs.WireLaws.{settled-mode}
 use borrow.Author.Needs.{needs}
 use Rattle.card.proofs.settle.settle_wire.Statement.{statement}
 use Rattle.card.proofs.settle.settle_wire.Tie as tie

@@ -1,4 +1,4 @@
-use Rattle.card.proofs.WireLaws.{wiring-is}
+use Rattle.wire.proofs.WireLaws.{wiring-is}
 use borrow.Author.Needs.{needs}
 use Rattle.card.proofs.settle.wiring.Statement.{statement}
 use Rattle.card.proofs.settle.wiring.Tie as tie

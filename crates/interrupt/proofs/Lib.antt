@@ -1,0 +1,2 @@
+pub mod EventFor
+pub mod LineFor

@@ -1,0 +1,3 @@
+// Events and the line.
+pub mod event;
+pub mod line;

@@ -1,0 +1,4 @@
+pub mod ResetFor
+pub mod RestoreFor
+pub mod SaveFor
+pub mod StartFor

@@ -1,0 +1,35 @@
+// Reset.
+ghost use mathlib.Core.Path.{_≡_};
+ghost use Rattle.model.specs.World.{worldOf};
+ghost use Rattle.model.specs.Calls.{step, reset};
+ghost use Rattle.card.specs.Outcomes.{after};
+use card::outcome::Outcome;
+use card::outcome::accepted;
+use card::outcome::refused;
+use model::Answer;
+use model::Card;
+
+// Sends Deassert if the wire is active, then gives the state of a start with the same shape. Waiting vectors send nothing.
+pub fn reset(card: Card, table: &mut [u8], pending: &mut [u8], out: &mut [u8]) -> Outcome
+    ensures { λ r. ⌜ after r (now (table .exit)) (now (pending .exit)) (now (out .exit)) ≡ step (worldOf card (now (table .entry)) (now (pending .entry))) (reset (now (out .entry))) ⌝ }
+{
+    let checked = card::sound::check(card, table, pending);
+    if !checked.sound {
+        return refused(card, 1);
+    }
+    let f = card.function;
+    let s = checked.shape;
+    let before = card::settle::wiring(f, card.wire, s);
+    let wired = before.set_wire(false);
+    let owed = wired.owed;
+    if out.len() < wire::owed_size(owed) {
+        return refused(card, 6);
+    }
+    let pin = before.pin;
+    let count = wire::put_owed(out, owed, f.requester, pin);
+    let config = f.config;
+    let sizes = f.sizes;
+    let function = crate::started::started(config, sizes, f.events, f.requester, s, table, pending);
+    let wire = wired.wiring.wire;
+    accepted(Card { function, wire }, Answer::Done, count)
+}
