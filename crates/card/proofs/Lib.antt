@@ -1,3 +1,4 @@
 pub mod CallsFor
 pub mod SettleFor
 pub mod SoundFor
+pub mod WireOnly

@@ -1,12 +1,11 @@
 -- A line call by the code and by the definition. Assumes nothing.
-use mathlib.Core.Path.{_≡_, refl, sym, ap, ap₂, _∙_}
+use mathlib.Core.Path.{_≡_, refl, sym, ap, _∙_}
 use mathlib.Core.Bool.{Bool, true, false}
 use mathlib.Core.List.{List, [], _++_, append-nil}
 use Prim.Native.Nat.{ℕ, _≤_, _<_}
-use native.Mathlib.Omega.{arith}
 use lib.ListN.{length}
-use Rattle.words.specs.Lists.{firstOf, keep}
-use Rattle.words.specs.Writers.{over, Wrote}
+use Rattle.words.specs.Lists.{firstOf}
+use Rattle.words.specs.Writers.{Wrote}
 use Rattle.model.specs.declared.Answer.the-variants.{Done}
 use Rattle.model.specs.declared.Card.{Card}
 use Rattle.model.specs.declared.Function.{Function}
@@ -15,18 +14,17 @@ use Rattle.model.specs.declared.Mode.the-variants.{Pin, Msi, Msix}
 use Rattle.model.specs.declared.Shape.{Shape}
 use Rattle.model.specs.World.{World, Endpoint, registers, worldOf, functionOf, withLine}
 use Rattle.model.specs.Vectors.{modeOf, owed, waits}
-use Rattle.model.specs.Release.{pinNumber, wireDue, wireDueOf, wireChange, owedNow, swept, sweepBytes, settled, settleBytes}
+use Rattle.model.specs.Release.{pinNumber, wireDue, wireChange, owedNow, settled, settleBytes}
 use Rattle.model.specs.Sound.{shape, sound}
-use Rattle.model.specs.Calls.{line, rows, changed, next, sends, outputOf, step, accepted}
+use Rattle.model.specs.Calls.{line, rows, changed, next, sends, outputOf, step}
 use Rattle.model.proofs.SoundLaws.{SoundEndpoint, is-sound}
 use Rattle.model.proofs.EventLaws.{swept-none, bytes-none}
-use Rattle.model.proofs.CallLaws.{step-accepted}
 use Rattle.card.specs.declared.outcome.Outcome.{Outcome}
 use Rattle.wire.specs.declared.Owed.{Owed}
 use Rattle.card.specs.Outcomes.{refusedWith, acceptedWith, after}
 use Rattle.wire.specs.Wires.{owedOf, bytesOwed, sizeOf}
-use Rattle.wire.proofs.WireLaws.{owed-is, owed-length}
-use Rattle.card.proofs.CallsFor.{Settles, line-settles, refused-short}
+use Rattle.card.proofs.CallsFor.{line-settles}
+use Rattle.card.proofs.WireOnly.{WireOnly, wire-short, wire-done}
 
 pub line-output : (level : Bool) (out : List ℕ) → outputOf (line level out) ≡ out
 unfolding outputOf
@@ -73,26 +71,20 @@ module _ (card : Card) (t p out : List ℕ) (level : Bool) (k : sound (worldOf c
       ∙ ap (λ (l : List ℕ). wireChange (card .function .requester) (registers u) (card .wire) due ++ l) (bytes-none (shape u) (withLine u level) (line-quiet u level (is-sound w k .endpoint)))
       ∙ append-nil (wireChange (card .function .requester) (registers u) (card .wire) due)
 
+  line-only : WireOnly w (line level out) due
+  line-only = record { passed = line-passed u level out; sends = line-sends; answer = line-settles w level out .answer }
+
   -- the packet o that the wire owes, and the level that it goes to
   module _ (s : Shape) (o : Owed) (es : s ≡ shape u) (eo : o ≡ owedOf (card .wire) (wireDue s level (registers u))) where
-    line-bytes : bytesOwed o (card .function .requester) (pinNumber (registers u)) ≡ sends w (line level out)
-    line-bytes = rw (eo, es) (owed-is (card .function .requester) (registers u) (card .wire) due ∙ sym line-sends)
-
-    line-size : sizeOf o ≡ length (sends w (line level out))
-    line-size = sym (owed-length o (card .function .requester) (pinNumber (registers u))) ∙ ap length line-bytes
+    owed-now : o ≡ owedOf (card .wire) due
+    owed-now = rw es at eo
 
     pub line-short : (n : ℕ) (r : Outcome) → n ≡ sizeOf o → length out < n → r ≡ refusedWith card 6 → after r t p out ≡ step w (line level out)
-    line-short n r en h er =
-        refused-short card t p out (line level out) (line-output level out) true (sym k) refl (line-passed u level out) r (omega (arith, line-size, en)) er
+    line-short = wire-short card t p out (line level out) (line-output level out) due k line-only o owed-now
 
     pub line-done : (n pin at : ℕ) (o₁ : List ℕ) (l : Bool) (g : Function) (r : Outcome) → n ≡ sizeOf o → n ≤ length out → pin ≡ pinNumber (registers u)
         → Wrote (bytesOwed o (card .function .requester) pin) out at o₁ → l ≡ wireDue s level (registers u)
         → g ≡ functionOf (card .function .config) (card .function .sizes) (card .function .events) (card .function .requester) level (card .function .waiting)
         → r ≡ acceptedWith (record { function = g; wire = l }) Done at → after r t p o₁ ≡ step w (line level out)
-    unfolding outputOf
     line-done n pin at o₁ l g r en h ep a el eg er =
-        let bytes : bytesOwed o (card .function .requester) pin ≡ sends w (line level out) = rw ep line-bytes in
-        let world : worldOf (record { function = g; wire = l }) t p ≡ next w (line level out) = rw (eg, el, es) (sym line-world) in
-        ap (λ (x : Outcome). after x t p o₁) er
-        ∙ (λ i. record { world = world i; answer = sym (line-settles w level out .answer) i; count = (a .count ∙ ap length bytes) i; output = (a .bytes ∙ ap (λ (l : List ℕ). over l out) bytes) i })
-        ∙ sym (step-accepted w (line level out) k (line-passed u level out) (omega (arith, line-size, en)))
+        wire-done card t p out (line level out) (line-output level out) due k line-only o owed-now n pin at t p o₁ (record { function = g; wire = l }) r en h ep a (rw (eg, el, es) (sym line-world)) er

@@ -3,11 +3,9 @@ use mathlib.Core.Path.{_≡_, refl, sym, ap, ap₂, _∙_}
 use mathlib.Core.Bool.{Bool, true, false}
 use mathlib.Core.List.{List}
 use Prim.Native.Nat.{ℕ, _≤_, _<_}
-use native.Mathlib.Omega.{arith}
 use lib.ListN.{length}
 use Rattle.words.specs.Lists.{firstOf}
-use Rattle.words.specs.Writers.{over, Wrote}
-use Rattle.model.specs.declared.Answer.{Answer}
+use Rattle.words.specs.Writers.{Wrote}
 use Rattle.model.specs.declared.Answer.the-variants.{Done}
 use Rattle.model.specs.declared.Card.{Card}
 use Rattle.model.specs.declared.Function.{Function}
@@ -20,15 +18,14 @@ use Rattle.model.specs.Start.{started}
 use Rattle.model.specs.Sound.{shape, sound}
 use Rattle.model.specs.Calls.{reset, rows, changed, next, sends, answerOf, outputOf, step}
 use Rattle.model.proofs.FitLaws.{sound-fit}
-use Rattle.model.proofs.CallLaws.{step-accepted}
 use Rattle.card.specs.declared.outcome.Outcome.{Outcome}
 use Rattle.wire.specs.declared.Owed.{Owed}
 use Rattle.wire.specs.declared.Wired.{Wired}
 use Rattle.wire.specs.declared.Wiring.{Wiring}
 use Rattle.card.specs.Outcomes.{refusedWith, acceptedWith, after}
 use Rattle.wire.specs.Wires.{owedOf, withLevel, bytesOwed, sizeOf}
-use Rattle.wire.proofs.WireLaws.{wiringOf, owed-is, owed-length}
-use Rattle.card.proofs.CallsFor.{refused-short}
+use Rattle.wire.proofs.WireLaws.{wiringOf}
+use Rattle.card.proofs.WireOnly.{WireOnly, wire-short, wire-done}
 
 pub reset-output : (out : List ℕ) → outputOf (reset out) ≡ out
 unfolding outputOf
@@ -62,25 +59,17 @@ module _ (card : Card) (t p out : List ℕ) (k : sound (worldOf card t p) ≡ tr
   unfolding answerOf
   reset-answer = refl
 
+  reset-only : WireOnly w (reset out) false
+  reset-only = record { passed = reset-passed (w .endpoint) out; sends = reset-sends; answer = sym reset-answer }
+
   module _ (o : Owed) (eo : o ≡ owedOf (card .wire) false) where
-    reset-bytes : bytesOwed o (card .function .requester) (pinNumber (registers (w .endpoint))) ≡ sends w (reset out)
-    reset-bytes = rw eo (owed-is (card .function .requester) (registers (w .endpoint)) (card .wire) false ∙ sym reset-sends)
-
-    reset-size : sizeOf o ≡ length (sends w (reset out))
-    reset-size = sym (owed-length o (card .function .requester) (pinNumber (registers (w .endpoint)))) ∙ ap length reset-bytes
-
     pub reset-short : (n : ℕ) (r : Outcome) → n ≡ sizeOf o → length out < n → r ≡ refusedWith card 6 → after r t p out ≡ step w (reset out)
-    reset-short n r en h er =
-        refused-short card t p out (reset out) (reset-output out) true (sym k) refl (reset-passed (w .endpoint) out) r (omega (arith, reset-size, en)) er
+    reset-short = wire-short card t p out (reset out) (reset-output out) false k reset-only o eo
 
     pub reset-done : (n pin at : ℕ) (o₁ t′ p′ : List ℕ) (l : Bool) (g : Function) (r : Outcome) → n ≡ sizeOf o → n ≤ length out → pin ≡ pinNumber (registers (w .endpoint))
         → Wrote (bytesOwed o (card .function .requester) pin) out at o₁ → l ≡ false
         → endpointOf g t′ p′ ≡ started (card .function .config) (card .function .sizes) (card .function .events) (card .function .requester)
         → r ≡ acceptedWith (record { function = g; wire = l }) Done at → after r t′ p′ o₁ ≡ step w (reset out)
-    unfolding outputOf
     reset-done n pin at o₁ t′ p′ l g r en h ep a el eg er =
-        let bytes : bytesOwed o (card .function .requester) pin ≡ sends w (reset out) = rw ep reset-bytes in
-        let world : worldOf (record { function = g; wire = l }) t′ p′ ≡ next w (reset out) = ap₂ (λ (u : Endpoint) (b : Bool). record { endpoint = u; wire = b }) eg el ∙ sym reset-world in
-        ap (λ (x : Outcome). after x t′ p′ o₁) er
-        ∙ (λ i. record { world = world i; answer = reset-answer i; count = (a .count ∙ ap length bytes) i; output = (a .bytes ∙ ap (λ (l : List ℕ). over l out) bytes) i })
-        ∙ sym (step-accepted w (reset out) k (reset-passed (w .endpoint) out) (omega (arith, reset-size, en)))
+        wire-done card t p out (reset out) (reset-output out) false k reset-only o eo n pin at t′ p′ o₁ (record { function = g; wire = l }) r en h ep a
+        (ap₂ (λ (u : Endpoint) (b : Bool). record { endpoint = u; wire = b }) eg el ∙ sym reset-world) er
