@@ -1,6 +1,6 @@
 -- Each way out of a save. Assumes nothing.
 use mathlib.Core.Path.{_≡_, refl, sym}
-use mathlib.Core.Bool.{Bool, true, false, not}
+use mathlib.Core.Bool.{Bool, false, not}
 use mathlib.Core.List.{List}
 use Prim.Native.Nat.{ℕ, _^_, _≤_, _<_}
 use native.Mathlib.Omega.{arith}
@@ -14,21 +14,22 @@ use Rattle.model.specs.World.{worldOf}
 use Rattle.model.specs.Sound.{sound}
 use Rattle.model.specs.Image.{imageOf}
 use Rattle.model.specs.Calls.{save, rows, next, sends, answerOf, outputOf, step}
-use Rattle.model.proofs.CallLaws.{step-unsound, step-short, step-accepted}
+use Rattle.model.proofs.CallLaws.{step-accepted}
 use Rattle.model.proofs.FitLaws.{sound-fit}
 use Rattle.image.specs.declared.format.Image.{Image}
 use Rattle.image.specs.Layout.{layout, imageSize}
 use Rattle.image.proofs.CardLaws.{image-size}
 use Rattle.card.specs.declared.outcome.Outcome.{Outcome}
 use Rattle.card.specs.Outcomes.{refusedWith, acceptedWith, after}
-use Rattle.card.proofs.SoundFor.{is-sound-now, not-sound-now}
+use Rattle.card.proofs.SoundFor.{is-sound-now}
+use Rattle.card.proofs.CallsFor.{refused-short}
+
+pub save-output : (out : List ℕ) → outputOf (save out) ≡ out
+unfolding outputOf
+save-output out = refl
 
 -- a test b of the card
 module _ (card : Card) (t p : List ℕ) (b : Bool) (e : b ≡ sound (worldOf card t p)) where
-  pub save-unsound : (out : List ℕ) (r : Outcome) → not b ≡ true → r ≡ refusedWith card 1 → after r t p out ≡ step (worldOf card t p) (save out)
-  unfolding outputOf
-  save-unsound out r h q = rw q (sym (step-unsound (worldOf card t p) (save out) (not-sound-now (worldOf card t p) b e h)))
-
   -- the layout of its image, and the image's length n
   module _ (i : Image) (h : not b ≡ false) (l : i ≡ layout (length t) (length p)) where
     pub size-fits : imageSize (i .table) (i .pending) < 2 ^ 64
@@ -46,10 +47,8 @@ module _ (card : Card) (t p : List ℕ) (b : Bool) (e : b ≡ sound (worldOf car
 
       module _ (z : length (card .function .sizes) ≡ 6) (c : length (card .function .config) ≡ 256) (r : Outcome) where
         pub save-short : length out < n → r ≡ refusedWith card 6 → after r t p out ≡ step (worldOf card t p) (save out)
-        unfolding rows sends outputOf firstOf
-        save-short k q =
-            rw q
-            (sym (step-short (worldOf card t p) (save out) (is-sound-now (worldOf card t p) b e h) refl (omega (arith, size-is, image-size card t p z c))))
+        unfolding rows sends firstOf
+        save-short k q = refused-short card t p out (save out) (save-output out) b e h refl r (omega (arith, size-is, image-size card t p z c)) q
 
         pub save-accepted : (k : ℕ) (out′ : List ℕ) → n ≤ length out → Wrote (imageOf (worldOf card t p)) out k out′ → r ≡ acceptedWith card Done k
             → after r t p out′ ≡ step (worldOf card t p) (save out)
