@@ -17,7 +17,7 @@ use Rattle.model.specs.World.{World, Endpoint, registers, worldOf, functionOf, 
 use Rattle.model.specs.Release.{pinNumber, wireDueOf, wireChange, sweepBytes, swept, settled, settleBytes}
 use Rattle.model.specs.Calls as Calls
 use Rattle.model.proofs.BytesBound.{sweep-le}
-use Rattle.image.proofs.Writing.{behind}
+use Rattle.words.proofs.Writers.{behind}
 use Rattle.endpoint.specs.declared.sweep.Sent.{Sent}
 use Rattle.endpoint.specs.Sweeps.{Swept}
 use Rattle.card.specs.declared.outcome.Outcome.{Outcome}

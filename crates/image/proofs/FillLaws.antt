@@ -48,11 +48,6 @@ word-drop s k i =
     number-shift (byte (drop k s)) (byte s) i (k + i) 4
     (λ j h. let e : k + (i + j) ≡ k + i + j = omega arith in getD-drop k s (i + j) 0 ∙ rw e)
 
-pub length-words : (n : ℕ) (l : List ℕ) → length (words32 n l) ≡ n
-unfolding words32
-length-words zero l = refl
-length-words (suc n) l = ap suc (length-words n (drop 4 l))
-
 pub byte-words : (n : ℕ) (l : List ℕ) (i : ℕ) → i < n → byte (words32 n l) i ≡ word32 l (4 * i)
 unfolding words32
 byte-words zero l i h = absurd (omega arith)

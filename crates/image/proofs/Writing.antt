@@ -1,4 +1,4 @@
--- Two writers of which the second is lent the output behind the first; and a loop of writers, one for each number of a list. Assumes nothing.
+-- A loop of writers, one for each number of a list. Assumes nothing.
 use mathlib.Core.Path.{_≡_, sym, ap, _∙_}
 use mathlib.Core.List.{List, _∷_, _++_}
 use Prim.Native.Nat.{ℕ, _+_, _-_, _≤_, _<_}
@@ -9,12 +9,8 @@ use borrow.Rule.Slice.PartMut.{putMid, midOf}
 use Rattle.words.specs.Lists.{join}
 use Rattle.words.specs.Bytes.{byte}
 use Rattle.words.specs.Writers.{putAt, Wrote}
-use Rattle.words.proofs.Writers.{placed, put-more, both}
+use Rattle.words.proofs.Writers.{placed, put-more}
 use Rattle.words.proofs.PutLaws.{put-end}
-
-pub behind : (p q o o₁ ys : List ℕ) (at n : ℕ) → Wrote p o at o₁ → Wrote q (midOf at (length o₁ - at) o₁) n ys
-    → Wrote (p ++ q) o (at + n) (putMid at (length o₁ - at) o₁ ys)
-behind p q o o₁ ys at n w v = both p q o o₁ _ at n w (v .count) (placed o₁ at q ys (v .bytes))
 
 -- the bytes of the numbers of z from the one at i on are still to be written
 module _ (f : ℕ → List ℕ) (z : List ℕ) (i at : ℕ) (o w : List ℕ) (g : putAt at (join f (drop i z)) o ≡ w) where

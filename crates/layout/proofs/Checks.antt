@@ -42,18 +42,6 @@ module _ (s : Shape) where
   unfolding msixPresent
   msix-there e = rw (ne-eqb _ _ e)
 
--- the longest form has 24 bytes
-forms-small : (masks wide : Bool) → forms masks wide .size ≤ 24
-unfolding forms
-forms-small false false = omega arith
-forms-small false true = omega arith
-forms-small true false = omega arith
-forms-small true true = omega arith
-
-pub size-small : (s : Shape) → formOf s .size ≤ 24
-unfolding formOf
-size-small s = forms-small (s .msi .masks) (s .msi .wide)
-
 -- check 13 from its three parts
 module _ (places : List ℕ) (s : Shape) (n : ℕ) (e : n ≡ formOf s .size) where
   parts : (badMsi places s n || badMsix places s || badPair s n) ≡ badStructures places s

@@ -21,7 +21,8 @@ use Rattle.model.proofs.PlaceLaws.{Placed, placed, fits-config}
 use Rattle.model.proofs.SoundLaws.{Accepts, accepts, buffers-fit, is-sound}
 use Rattle.model.proofs.StartLaws.{few-vectors}
 
-size-small : (s : Shape) → formOf s .size ≤ 24
+-- the longest form has 24 bytes
+pub size-small : (s : Shape) → formOf s .size ≤ 24
 unfolding formOf forms
 size-small s = go (s .msi .masks) (s .msi .wide)
   where

@@ -81,7 +81,7 @@ unfolding words32 word32
 words-below zero l h = empty
 words-below (suc n) l h = more (number-lt (byte l) 0 4 h) (words-below n (drop 4 l) (drop-bytes 4 l h))
 
-length-words : (n : ℕ) (l : List ℕ) → length (words32 n l) ≡ n
+pub length-words : (n : ℕ) (l : List ℕ) → length (words32 n l) ≡ n
 unfolding words32
 length-words zero l = refl
 length-words (suc n) l = ap suc (length-words n (drop 4 l))

@@ -62,7 +62,7 @@ masked-form s e = rw e (go (s .msi .wide))
     go false = record { behind = omega arith; free = omega arith; next = refl }
     go true = record { behind = omega arith; free = omega arith; next = refl }
 
-not-within : (lo n k : ℕ) → lo + n ≤ k → within lo n k ≡ false
+pub not-within : (lo n k : ℕ) → lo + n ≤ k → within lo n k ≡ false
 unfolding within
 not-within lo n k h = by-test (leb lo k) (λ e. rw (e, le-ltb k (lo + n) h)) (λ e. rw e)
 

@@ -16,7 +16,7 @@ use Rattle.model.specs.declared.Form.{Form}
 use Rattle.model.specs.declared.Shape.{Shape}
 use Rattle.model.specs.Shape.{formOf, forms, msiPresent, msixPresent}
 use Rattle.model.specs.Registers.{headerWritable, headerZero, msiWritable, msiZero, msixWritable, maskBytes, inMask, inPendingRegister, inMsi, inMsix, writable, storedZero}
-use Rattle.layout.proofs.Checks.{size-small}
+use Rattle.model.proofs.FitLaws.{size-small}
 
 -- byte k of a number
 pub byte-of : (n x k : ℕ) → k < n → byte (bytesOf n x) k ≡ x / 2 ^ (8 * k) % 256

@@ -23,7 +23,9 @@ use Rattle.model.specs.Shape.{formOf, msiPresent}
 use Rattle.model.specs.Registers.{headerZero, msiZero, maskBytes, inMask, inPendingRegister, inMsi, storedZero}
 use Rattle.model.specs.Sound.{zeroBits}
 use Rattle.model.proofs.PlaceLaws.{in-msi, size-large}
-use Rattle.layout.proofs.Checks.{size-small, msi-there, msi-absent}
+use Rattle.model.proofs.FitLaws.{size-small}
+use Rattle.model.proofs.ZeroLaws.{not-within}
+use Rattle.layout.proofs.Checks.{msi-there, msi-absent}
 use Rattle.registers.specs.Bounds.{MsiBounds}
 use Rattle.registers.proofs.CleanLaws.{clean, clean-word, or-none, zero-bits}
 use Rattle.registers.proofs.MaskLaws.{masked, in-mask, in-pending, low-zero, high-zero, header-byte, msi-byte, other-byte, clear-ones}
@@ -55,9 +57,6 @@ number-not f h i (suc n) =
 
 not-number : (n x : ℕ) → x < 256 ^ n → number (λ k. clear (byte (bytesOf n x) k) 0xff) 0 n ≡ 256 ^ n - 1 - x
 not-number n x h = omega (arith, number-not (byte (bytesOf n x)) (bytesOf-lt n x) 0 n, number-bytesOf n x h)
-
-not-within : (lo n k : ℕ) → lo + n ≤ k → within lo n k ≡ false
-not-within lo n k h = by-test (within lo n k) (λ t. absurd (omega (arith, within-true lo n k t .1))) (λ t. t)
 
 -- ---- byte i is clean
 

@@ -37,3 +37,8 @@ both p q o o₁ o₂ at n w e f = record {
       f ∙ ap (putAt at q) (w .bytes) ∙ ap (λ (k : ℕ). putAt k q (over p o)) (w .count ∙ sym (zero-add (length p)))
       ∙ put-more 0 p q o zero-le;
 }
+
+-- the second is lent the output behind the first
+pub behind : (p q o o₁ ys : List ℕ) (at n : ℕ) → Wrote p o at o₁ → Wrote q (midOf at (length o₁ - at) o₁) n ys
+    → Wrote (p ++ q) o (at + n) (putMid at (length o₁ - at) o₁ ys)
+behind p q o o₁ ys at n w v = both p q o o₁ _ at n w (v .count) (placed o₁ at q ys (v .bytes))

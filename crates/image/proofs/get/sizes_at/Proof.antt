@@ -5,7 +5,8 @@ use Prim.Native.Nat.{_-_, _≤_}
 use native.Mathlib.Omega.{arith}
 use lib.ListN.{length, drop, length-set}
 use Rattle.words.specs.Bytes.{words32}
-use Rattle.image.proofs.FillLaws.{Filled, fill-start, fill-next, fill-end, word-drop, length-words, byte-words}
+use Rattle.model.proofs.ImageExact.{length-words}
+use Rattle.image.proofs.FillLaws.{Filled, fill-start, fill-next, fill-end, word-drop, byte-words}
 use borrow.Author.Needs.{needs}
 use Rattle.image.proofs.get.sizes_at.Statement.{statement}
 use Rattle.image.proofs.get.sizes_at.Tie as tie

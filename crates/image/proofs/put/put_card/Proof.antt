@@ -11,7 +11,7 @@ use Rattle.words.specs.Bytes.{bytesOf}
 use Rattle.words.specs.Writers.{Wrote}
 use Rattle.image.specs.Layout.{numberBytes}
 use Rattle.image.proofs.CardLaws.{card-parts, number-length, sizes-length}
-use Rattle.image.proofs.Writing.{behind}
+use Rattle.words.proofs.Writers.{behind}
 use borrow.Author.Needs.{needs}
 use Rattle.image.proofs.put.put_card.Statement.{statement}
 use Rattle.image.proofs.put.put_card.Tie as tie

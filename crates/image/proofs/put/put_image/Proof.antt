@@ -10,7 +10,7 @@ use Rattle.words.specs.Bytes.{bytesOf}
 use Rattle.model.specs.World.{worldOf}
 use Rattle.model.specs.Image.{mark, cardBytes, imageOf}
 use Rattle.image.proofs.CardLaws.{start-length, card-length, card-alone}
-use Rattle.image.proofs.Writing.{behind}
+use Rattle.words.proofs.Writers.{behind}
 use borrow.Author.Needs.{needs}
 use Rattle.image.proofs.put.put_image.Statement.{statement}
 use Rattle.image.proofs.put.put_image.Tie as tie

@@ -2,7 +2,7 @@
 use Rattle.words.specs.Bytes.{bytesOf}
 use native.Mathlib.Omega.{arith}
 use Rattle.words.proofs.ByteLaws.{length-bytesOf}
-use Rattle.image.proofs.Writing.{behind}
+use Rattle.words.proofs.Writers.{behind}
 use Rattle.model.specs.Image.{mark}
 use borrow.Author.Needs.{needs}
 use Rattle.image.proofs.put.put_start.Statement.{statement}

@@ -2,7 +2,8 @@
 use denote.Ref.{now}
 use mathlib.Core.Path.{sym, ap, _∙_}
 use native.Mathlib.Omega.{arith}
-use Rattle.layout.proofs.Checks.{size-small, part-1, part-2, part-3}
+use Rattle.model.proofs.FitLaws.{size-small}
+use Rattle.layout.proofs.Checks.{part-1, part-2, part-3}
 use Rattle.model.specs.Capabilities.{capabilities, listed}
 use Rattle.model.specs.declared.Form.{Form}
 use borrow.Author.Needs.{needs}
