@@ -1,0 +1,3 @@
+pub mod CardFor
+pub mod Outcomes
+pub mod CrossingFor
