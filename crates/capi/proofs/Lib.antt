@@ -1,3 +1,5 @@
 pub mod CardFor
 pub mod Outcomes
 pub mod CrossingFor
+pub mod ReadFor
+pub mod StartFor

@@ -37,3 +37,37 @@ pub extern "C" fn musgarento_config_write(
     let numbers = hand_back(card, outcome);
     numbers.refusal
 }
+
+#[no_mangle]
+pub extern "C" fn musgarento_bar_write(
+    card: &mut [u8],
+    table: &mut [u8],
+    pending: &mut [u8],
+    bar: u8,
+    offset: u32,
+    width: u8,
+    value: u64,
+    out: &mut [u8],
+    count: &mut usize,
+) -> u8
+    ensures { λ r. ⌜ handed r (now (card .exit)) (now (table .exit)) (now (pending .exit)) (now (out .exit)) 0 0 (now (count .exit)) ≡ crossed (now (card .entry)) (now (table .entry)) (now (pending .entry)) (call (barWrite bar offset width value (now (out .entry)))) ⌝ }
+{
+    *count = 0;
+    if !is_card(card) {
+        return 60;
+    }
+    let held = card_of(card);
+    let outcome = access::bar_write::bar_write(
+        held,
+        table,
+        pending,
+        bar,
+        offset,
+        width,
+        value,
+        out,
+    );
+    *count = outcome.count;
+    let numbers = hand_back(card, outcome);
+    numbers.refusal
+}
