@@ -7,7 +7,7 @@ use borrow.Author.Tests.{not-true, not-false}
 use Rattle.words.specs.Bytes.{Bytes}
 use Rattle.model.specs.declared.Card.{Card}
 use Rattle.model.specs.Answers.{refusalOf, valueOf, eventCode}
-use Rattle.model.specs.World.{World, worldOf, cardOf}
+use Rattle.model.specs.World.{worldOf, cardOf}
 use Rattle.model.specs.Image.{cardBytes}
 use Rattle.model.specs.Calls as Calls
 use Rattle.model.specs.Calls.{Operation, operate}
@@ -17,17 +17,17 @@ use Rattle.card.specs.declared.outcome.Outcome.{Outcome}
 use Rattle.card.specs.Outcomes.{after}
 use Rattle.capi.specs.declared.bytes.Numbers.{Numbers}
 use Rattle.capi.specs.Numbers.{numbersOf}
-use Rattle.capi.specs.Crossing.{Crossed, isCard, handed, back, crosses, lent, crossed}
+use Rattle.capi.specs.Crossing.{isCard, handed, back, wellFormed, lent, crossed}
 use Rattle.capi.proofs.CardFor.{card-kept}
 use Rattle.capi.proofs.Outcomes.{Reads, Plain, Bare}
 
--- 60: buffers of other lengths
-pub stopped : (card t p out : List ℕ) (o : Operation) → lent o ≡ out → crosses card o ≡ false → handed 60 card t p out 0 0 0 ≡ crossed card t p o
+-- 60
+pub stopped : (card t p out : List ℕ) (o : Operation) → lent o ≡ out → wellFormed card o ≡ false → handed 60 card t p out 0 0 0 ≡ crossed card t p o
 unfolding crossed
 stopped card t p out o l e = rw (e, l)
 
 -- the operation o gave the outcome r, with the later buffers t′, p′ and out′
-module _ (card t p : List ℕ) (o : Operation) (x : crosses card o ≡ true) (r : Outcome) (t′ p′ out′ : List ℕ) (q : after r t′ p′ out′ ≡ operate (worldOf (cardIn card) t p) o) where
+module _ (card t p : List ℕ) (o : Operation) (x : wellFormed card o ≡ true) (r : Outcome) (t′ p′ out′ : List ℕ) (q : after r t′ p′ out′ ≡ operate (worldOf (cardIn card) t p) o) where
   pub through : (card′ : List ℕ) (n v a k : ℕ) → card′ ≡ cardBytes (worldOf (r .card) [] []) → n ≡ refusalOf (r .answer) → v ≡ valueOf (r .answer)
       → a ≡ eventCode (r .answer) → k ≡ r .count → handed n card′ t′ p′ out′ v a k ≡ crossed card t p o
   unfolding crossed
@@ -36,7 +36,7 @@ module _ (card t p : List ℕ) (o : Operation) (x : crosses card o ≡ true) (r 
 
 -- ---- a call on the card that the bytes hold, of which b is the code's test
 
-module _ (card t p : List ℕ) (o : Operation) (x : crosses card o ≡ isCard card) (b : Bool) (e : b ≡ isCard card) where
+module _ (card t p : List ℕ) (o : Operation) (x : wellFormed card o ≡ isCard card) (b : Bool) (e : b ≡ isCard card) where
   pub no-card : (out : List ℕ) → lent o ≡ out → not b ≡ true → handed 60 card t p out 0 0 0 ≡ crossed card t p o
   no-card out l h = stopped card t p out o l (x ∙ sym e ∙ not-true b h)
 

@@ -3,3 +3,4 @@ pub mod Outcomes
 pub mod CrossingFor
 pub mod ReadFor
 pub mod StartFor
+pub mod Refused

@@ -1,10 +1,9 @@
 -- What calls do not give, and which leave the card as it was. Assumes nothing.
-use mathlib.Core.Path.{_≡_, refl, ap, _∙_}
+use mathlib.Core.Path.{_≡_, refl, ap}
 use mathlib.Core.List.{List}
 use Prim.Native.Nat.{ℕ}
 use lib.ListN.{length}
 use Rattle.words.proofs.BoolLaws.{cond-elim}
-use Rattle.model.specs.declared.Answer.{Answer}
 use Rattle.model.specs.declared.Answer.the-variants.{Done}
 use Rattle.model.specs.declared.Mode.{Mode}
 use Rattle.model.specs.declared.Mode.the-variants.{Pin, Msi, Msix}
@@ -12,10 +11,10 @@ use Rattle.model.specs.declared.Shape.{Shape}
 use Rattle.model.specs.Answers.{valueOf, eventCode}
 use Rattle.model.specs.World.{World, Endpoint, registers}
 use Rattle.model.specs.Image.{restoreRefusal}
-use Rattle.model.specs.Start.{Given, startRefusal}
+use Rattle.model.specs.Start.{startRefusal}
 use Rattle.model.specs.Vectors.{modeOf, vectorOf, isOpen, waits}
 use Rattle.model.specs.Release.{Raised, raise, raiseVector, raisedBy}
-use Rattle.model.specs.Calls.{Call, Outcome, Operation, configRead, barRead, event, save, call, start, restore, next, sends, answerOf, outputOf, refusal, accepted, refused, step, startOf, restoreOf, startGiven, operate}
+use Rattle.model.specs.Calls.{Call, Outcome, configRead, barRead, event, save, call, start, restore, next, sends, answerOf, outputOf, refusal, accepted, refused, step, startOf, restoreOf, startGiven, operate}
 use Rattle.model.proofs.Refusals.{answered-elim}
 
 step-elim : (P : Outcome → Type 0) (w : World) (c : Call) → P (accepted (next w c) (answerOf (w .endpoint) c) (sends w c) (outputOf c))

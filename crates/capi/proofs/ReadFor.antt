@@ -1,5 +1,5 @@
 -- A value read from the configuration has at most 32 bits. Assumes nothing.
-use mathlib.Core.Path.{_≡_, refl, sym, ap, _∙_}
+use mathlib.Core.Path.{_≡_, refl, ap, _∙_}
 use mathlib.Core.Bool.{Bool, true, false, _&&_}
 use mathlib.Core.List.{List, []}
 use Prim.Native.Nat.{ℕ, _+_, _-_, _*_, _^_, _≤_, _<_}
@@ -8,19 +8,18 @@ use native.Mathlib.Omega.{arith}
 use lib.Dec.{eqb}
 use lib.ListN.{length}
 use Rattle.words.specs.Bits.{ofBool}
-use Rattle.words.specs.Bytes.{byte, Bytes, bytesOf, number}
+use Rattle.words.specs.Bytes.{Bytes}
 use Rattle.words.proofs.BoolLaws.{cond-elim, passed}
 use Rattle.words.proofs.ByteLaws.{bytesOf-lt, number-lt}
 use Rattle.model.specs.declared.Card.{Card}
-use Rattle.model.specs.declared.Shape.{Shape}
 use Rattle.model.specs.Answers.{valueOf}
 use Rattle.model.specs.Shape.{formOf}
 use Rattle.model.specs.World.{World, Endpoint, worldOf}
 use Rattle.model.specs.Registers.{inMsi, inPendingRegister, shown, storedZero}
 use Rattle.model.specs.Sound.{shape, zeroBits}
 use Rattle.model.specs.Calls as Calls
-use Rattle.model.specs.Calls.{configRead, badConfig, rows, answerOf, refusal, step}
-use Rattle.model.proofs.Refusals.{answered-elim, Passed, passed-all}
+use Rattle.model.specs.Calls.{configRead, rows, answerOf, refusal, step}
+use Rattle.model.proofs.Refusals.{answered-elim, passed-all}
 use Rattle.model.proofs.SoundLaws.{is-sound}
 use Rattle.registers.proofs.AccessLaws.{config-access}
 use Rattle.registers.proofs.ShownLaws.{status-room}

@@ -1,12 +1,11 @@
 -- A start across the interface: the tests of its lengths, and the start. Assumes nothing.
 use mathlib.Core.Path.{_≡_, refl, sym, ap, _∙_}
-use mathlib.Core.Bool.{true, false}
+use mathlib.Core.Bool.{true}
 use mathlib.Core.List.{List, []}
 use Prim.Native.Nat.{ℕ}
-use lib.Dec.{eqb}
 use lib.ListN.{length}
 use borrow.Author.Tests.{eq-eqb, ne-eqb}
-use Rattle.model.specs.Answers.{refusalOf, valueOf, eventCode}
+use Rattle.model.specs.Answers.{valueOf, eventCode}
 use Rattle.model.specs.Image.{cardBytes}
 use Rattle.model.specs.Start.{given}
 use Rattle.model.specs.World.{worldOf, endpointOf, zeroFunction}
@@ -17,8 +16,8 @@ use Rattle.card.specs.declared.outcome.Outcome.{Outcome}
 use Rattle.card.specs.Outcomes.{after}
 use Rattle.capi.specs.declared.bytes.Numbers.{Numbers}
 use Rattle.capi.specs.Numbers.{numbersOf}
-use Rattle.capi.specs.Crossing.{handed, crosses, lent, crossed}
-use Rattle.capi.proofs.Outcomes.{Bare, start-bare}
+use Rattle.capi.specs.Crossing.{handed, wellFormed, lent, crossed}
+use Rattle.capi.proofs.Outcomes.{start-bare}
 use Rattle.capi.proofs.CrossingFor.{stopped, through}
 
 module _ (card t p config sizes : List ℕ) (events requester : ℕ) where
@@ -26,20 +25,20 @@ module _ (card t p config sizes : List ℕ) (events requester : ℕ) where
   o = start config sizes events requester
 
   pub wrong-card : (length card ≡ 289 → ⊥) → handed 60 card t p [] 0 0 0 ≡ crossed card t p o
-  unfolding crosses lent
+  unfolding wellFormed lent
   wrong-card h = stopped card t p [] o refl (rw (ne-eqb (length card) 289 h))
 
   pub wrong-config : length card ≡ 289 → (length config ≡ 256 → ⊥) → handed 60 card t p [] 0 0 0 ≡ crossed card t p o
-  unfolding crosses lent
+  unfolding wellFormed lent
   wrong-config a h = stopped card t p [] o refl (rw (eq-eqb (length card) 289 a, ne-eqb (length config) 256 h))
 
   pub wrong-sizes : length card ≡ 289 → length config ≡ 256 → (length sizes ≡ 6 → ⊥) → handed 60 card t p [] 0 0 0 ≡ crossed card t p o
-  unfolding crosses lent
+  unfolding wellFormed lent
   wrong-sizes a b h = stopped card t p [] o refl (rw (eq-eqb (length card) 289 a, eq-eqb (length config) 256 b, ne-eqb (length sizes) 6 h))
 
   module _ (a : length card ≡ 289) (b : length config ≡ 256) (c : length sizes ≡ 6) where
-    right-lengths : crosses card o ≡ true
-    unfolding crosses
+    right-lengths : wellFormed card o ≡ true
+    unfolding wellFormed
     right-lengths = rw (eq-eqb (length card) 289 a, eq-eqb (length config) 256 b, eq-eqb (length sizes) 6 c)
 
     -- from the configuration and the sizes that the code copied

@@ -37,11 +37,11 @@ back r =
 unfoldable pub isCard : List ℕ → Bool
 isCard l = eqb (length l) 289 && ltb (byte l 0) 4
 
--- the bytes that an operation is lent as card, configuration and sizes can cross. A start does not read the card
-unfoldable pub crosses : List ℕ → Operation → Bool
-crosses card (call c) = isCard card
-crosses card (start config sizes events requester) = eqb (length card) 289 && eqb (length config) 256 && eqb (length sizes) 6
-crosses card (restore image) = isCard card
+-- card, configuration and sizes as the interface takes them. A start does not read the card's bytes
+unfoldable pub wellFormed : List ℕ → Operation → Bool
+wellFormed card (call c) = isCard card
+wellFormed card (start config sizes events requester) = eqb (length card) 289 && eqb (length config) 256 && eqb (length sizes) 6
+wellFormed card (restore image) = isCard card
 
 -- the output lent to an operation
 unfoldable pub lent : Operation → List ℕ
@@ -52,6 +52,6 @@ lent (restore image) = []
 -- every function of the interface: the operation on the card that the bytes hold, or 60 with nothing changed
 unfoldable pub crossed : (card table pending : List ℕ) → Operation → Crossed
 crossed card table pending o =
-    cond (crosses card o)
+    cond (wellFormed card o)
     (back (operate (worldOf (cardIn card) table pending) o))
     (handed 60 card table pending (lent o) 0 0 0)

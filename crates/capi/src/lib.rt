@@ -1,7 +1,7 @@
 // The C interface: include/musgarento.h has its functions.
-pub mod bytes;
+mod bytes;
 pub mod events;
-pub mod given;
+mod given;
 pub mod images;
 pub mod reads;
 pub mod starts;
