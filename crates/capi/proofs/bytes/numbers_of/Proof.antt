@@ -1,0 +1,92 @@
+use Rattle.model.specs.Answers.{refusalOf, valueOf, eventCode}
+use borrow.Author.Needs.{needs}
+use Rattle.capi.proofs.bytes.numbers_of.Statement.{statement}
+use Rattle.capi.proofs.bytes.numbers_of.Tie as tie
+
+enum-known-answer : tie.Need-enum-known-answer
+enum-known-answer c = search needs
+
+enum-known-answer-2 : tie.Need-enum-known-answer-2
+enum-known-answer-2 c = search needs
+
+enum-told : tie.Need-enum-told
+enum-told c = search needs
+
+became-requires : tie.Need-became-requires
+became-requires c κs = search needs
+
+enum-told-2 : tie.Need-enum-told-2
+enum-told-2 c = search needs
+
+became-requires-2 : tie.Need-became-requires-2
+became-requires-2 c κs = search needs
+
+enum-told-3 : tie.Need-enum-told-3
+enum-told-3 c = search needs
+
+became-requires-3 : tie.Need-became-requires-3
+became-requires-3 c κs = search needs
+
+enum-told-4 : tie.Need-enum-told-4
+enum-told-4 c = search needs
+
+became-requires-4 : tie.Need-became-requires-4
+became-requires-4 c κs = search needs
+
+enum-told-5 : tie.Need-enum-told-5
+enum-told-5 c = search needs
+
+became-requires-5 : tie.Need-became-requires-5
+became-requires-5 c κs = search needs
+
+returns : tie.Need-returns
+unfolding refusalOf valueOf eventCode
+returns c = rw (c .before .answer .given .1)
+
+returns-2 : tie.Need-returns-2
+unfolding refusalOf valueOf eventCode
+returns-2 c = rw (c .before .answer2 .given .1)
+
+returns-3 : tie.Need-returns-3
+unfolding refusalOf valueOf eventCode
+returns-3 c = rw (c .before .enum-told .given .1) (c .became .ensures)
+
+returns-4 : tie.Need-returns-4
+unfolding refusalOf valueOf eventCode
+returns-4 c = rw (c .before .enum-told2 .given .1) (c .became2 .ensures)
+
+returns-5 : tie.Need-returns-5
+unfolding refusalOf valueOf eventCode
+returns-5 c = rw (c .before .enum-told3 .given .1) (c .became3 .ensures)
+
+returns-6 : tie.Need-returns-6
+unfolding refusalOf valueOf eventCode
+returns-6 c = rw (c .before .enum-told4 .given .1) (c .became4 .ensures)
+
+returns-7 : tie.Need-returns-7
+unfolding refusalOf valueOf eventCode
+returns-7 c = rw (c .before .enum-told5 .given .1) (c .became5 .ensures)
+
+pub numbers-of-spec : {M : Type 1} → statement M
+numbers-of-spec =
+    tie.close
+    (tie.spec
+    enum-known-answer
+    enum-known-answer-2
+    enum-told
+    became-requires
+    enum-told-2
+    became-requires-2
+    enum-told-3
+    became-requires-3
+    enum-told-4
+    became-requires-4
+    enum-told-5
+    became-requires-5
+    returns
+    returns-2
+    returns-3
+    returns-4
+    returns-5
+    returns-6
+    returns-7)

@@ -1,0 +1,53 @@
+use Rattle.capi.proofs.StartFor.{wrong-card, wrong-config, wrong-sizes, starts-back}
+use borrow.Author.Needs.{needs}
+use Rattle.capi.proofs.starts.musgarento_start.Statement.{statement}
+use Rattle.capi.proofs.starts.musgarento_start.Tie as tie
+
+returns : tie.Need-returns
+returns c = wrong-card _ _ _ _ _ _ _ (c .if1 .taken)
+
+returns-2 : tie.Need-returns-2
+returns-2 c = wrong-config _ _ _ _ _ _ _ (c .before .if1 .left) (c .if2 .taken)
+
+returns-3 : tie.Need-returns-3
+returns-3 c = wrong-sizes _ _ _ _ _ _ _ (c .before .before .if1 .left) (c .before .if2 .left) (c .if3 .taken)
+
+config-of-requires : tie.Need-config-of-requires
+config-of-requires c κs = search needs
+
+sizes-of-requires : tie.Need-sizes-of-requires
+sizes-of-requires c κs = search needs
+
+start-requires : tie.Need-start-requires
+start-requires c κs = search needs
+
+hand-back-requires : tie.Need-hand-back-requires
+hand-back-requires c κs = search needs
+
+same-length : tie.Need-same-length
+same-length c = search needs
+
+same-length-2 : tie.Need-same-length-2
+same-length-2 c = search needs
+
+same-length-3 : tie.Need-same-length-3
+same-length-3 c = search needs
+
+returns-4 : tie.Need-returns-4
+returns-4 c = starts-back _ _ _ _ _ _ _ (c .before .before .before .before .before .before .before .before .before .before .before .before .before .before .before .if1 .left) (c .before .before .before .before .before .before .before .before .before .before .before .before .before .before .if2 .left) (c .before .before .before .before .before .before .before .before .before .before .before .before .before .if3 .left) _ _ (c .before .before .before .before .before .before .before .before .before .before .before .before .config-of .ensures) (c .before .before .before .before .before .before .before .before .before .before .before .sizes-of .ensures) _ _ _ (c .before .before .before .before .before .before .before .before .start .ensures) _ (c .before .before .hand-back .ensures .0) _ (c .before .before .hand-back .ensures .1)
+
+pub musgarento-start-spec : {M : Type 1} → statement M
+musgarento-start-spec =
+    tie.close
+    (tie.spec
+    returns
+    returns-2
+    returns-3
+    config-of-requires
+    sizes-of-requires
+    start-requires
+    hand-back-requires
+    same-length
+    same-length-2
+    same-length-3
+    returns-4)

@@ -1,0 +1,8 @@
+// The C interface: include/musgarento.h has its functions.
+mod bytes;
+pub mod events;
+mod given;
+pub mod images;
+pub mod reads;
+pub mod starts;
+pub mod writes;
