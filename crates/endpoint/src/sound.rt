@@ -48,13 +48,12 @@ fn nothing_owed(f: Function, s: Shape, table: &[u8], pending: &[u8]) -> bool
     requires { ⌜ Ready s (endpointOf f (now table) (now pending)) ⌝ }
     ensures { λ r. ⌜ r ≡ isEmpty (owedNow s (endpointOf f (now (table .entry)) (now (pending .entry)))) ⌝ }
 {
-    let config = f.config;
-    let mode = vectors::mode::mode(&config, s);
+    let mode = vectors::mode::mode(&f.config, s);
     match mode {
         Mode::Pin => true,
         Mode::Msi => crate::sweep::msi_owed(f, s) == 0,
         Mode::Msix => {
-            if vectors::msix::msix_enabled(&config, s) {
+            if vectors::msix::msix_enabled(&f.config, s) {
                 return release::msix::none_owed(table, pending);
             }
             true
@@ -67,8 +66,7 @@ fn is_clean(f: Function, s: Shape, table: &[u8], pending: &[u8]) -> bool
     requires { ⌜ (s ≡ shapeOf (f .config)) × (startRefusal (givenOf (endpointOf f (now table) (now pending))) ≡ 0) ⌝ }
     ensures { λ r. ⌜ r ≡ soundEndpoint s (endpointOf f (now (table .entry)) (now (pending .entry))) ⌝ }
 {
-    let config = f.config;
-    if !registers::clean::config_clean(&config, s) {
+    if !registers::clean::config_clean(&f.config, s) {
         return false;
     }
     let n = s.msix.vectors;

@@ -29,8 +29,7 @@ pub fn msi_owed(f: Function, s: Shape) -> u32
     requires { ⌜ FitShape s ⌝ }
     ensures { λ r. ⌜ ((t p : List ℕ) → owed Mode.Msi s (endpointOf f t p) ≡ setBits 32 r) ⌝ }
 {
-    let config = f.config;
-    let open = vectors::msi::msi_open(&config, s);
+    let open = vectors::msi::msi_open(&f.config, s);
     open & f.waiting
 }
 
@@ -38,9 +37,8 @@ fn msi_size(f: Function, s: Shape) -> usize
     requires { ⌜ FitShape s ⌝ }
     ensures { λ r. ⌜ ((t p : List ℕ) → r ≡ length (bytesFor Mode.Msi s (endpointOf f t p))) ⌝ }
 {
-    let config = f.config;
     let owed = msi_owed(f, s);
-    let base = vectors::message::msi_base(&config, s);
+    let base = vectors::message::msi_base(&f.config, s);
     release::msi::msi_size(owed, base.upper)
 }
 
@@ -48,8 +46,7 @@ fn msix_size(f: Function, s: Shape, table: &[u8], pending: &[u8]) -> usize
     requires { ⌜ FitShape s × Lent (now table) (now pending) × (length (now table) ≡ tableBytes s) ⌝ }
     ensures { λ r. ⌜ r ≡ length (bytesFor Mode.Msix s (endpointOf f (now (table .entry)) (now (pending .entry)))) ⌝ }
 {
-    let config = f.config;
-    if vectors::msix::msix_enabled(&config, s) {
+    if vectors::msix::msix_enabled(&f.config, s) {
         return release::msix::msix_size(table, pending);
     }
     0
@@ -60,8 +57,7 @@ pub fn owed_size(f: Function, s: Shape, table: &[u8], pending: &[u8]) -> usize
     requires { ⌜ Ready s (endpointOf f (now table) (now pending)) ⌝ }
     ensures { λ r. ⌜ r ≡ length (sweepBytes s (endpointOf f (now (table .entry)) (now (pending .entry)))) ⌝ }
 {
-    let config = f.config;
-    let mode = vectors::mode::mode(&config, s);
+    let mode = vectors::mode::mode(&f.config, s);
     match mode {
         Mode::Pin => 0,
         Mode::Msi => msi_size(f, s),
@@ -73,9 +69,8 @@ fn msi_send(f: Function, s: Shape, out: &mut [u8]) -> Sent
     requires { ⌜ FitShape s × ((t p : List ℕ) → length (bytesFor Mode.Msi s (endpointOf f t p)) ≤ length (now out)) ⌝ }
     ensures { λ r. ⌜ ((t p : List ℕ) → Swept (bytesFor Mode.Msi s (endpointOf f t p)) (endpointOf f t p) (sweptFor Mode.Msi s (endpointOf f t p)) (now (out .entry)) r p (now (out .exit))) ⌝ }
 {
-    let config = f.config;
     let owed = msi_owed(f, s);
-    let base = vectors::message::msi_base(&config, s);
+    let base = vectors::message::msi_base(&f.config, s);
     let n = release::msi::msi_send(out, f.requester, base.upper, base.address, base.value, owed);
     Sent {
         waiting: !owed & f.waiting,
@@ -87,8 +82,7 @@ fn msix_send(f: Function, s: Shape, table: &[u8], pending: &mut [u8], out: &mut 
     requires { ⌜ FitShape s × Lent (now table) (now pending) × (length (now table) ≡ tableBytes s) × (length (bytesFor Mode.Msix s (endpointOf f (now table) (now pending))) ≤ length (now out)) ⌝ }
     ensures { λ r. ⌜ Swept (bytesFor Mode.Msix s (endpointOf f (now (table .entry)) (now (pending .entry)))) (endpointOf f (now (table .entry)) (now (pending .entry))) (sweptFor Mode.Msix s (endpointOf f (now (table .entry)) (now (pending .entry)))) (now (out .entry)) r (now (pending .exit)) (now (out .exit)) ⌝ }
 {
-    let config = f.config;
-    if vectors::msix::msix_enabled(&config, s) {
+    if vectors::msix::msix_enabled(&f.config, s) {
         let n = release::msix::msix_send(out, table, pending, f.requester);
         return Sent {
             waiting: f.waiting,
@@ -106,8 +100,7 @@ pub fn send_owed(f: Function, s: Shape, table: &[u8], pending: &mut [u8], out: &
     requires { ⌜ Ready s (endpointOf f (now table) (now pending)) × (length (sweepBytes s (endpointOf f (now table) (now pending))) ≤ length (now out)) ⌝ }
     ensures { λ r. ⌜ Swept (sweepBytes s (endpointOf f (now (table .entry)) (now (pending .entry)))) (endpointOf f (now (table .entry)) (now (pending .entry))) (swept s (endpointOf f (now (table .entry)) (now (pending .entry)))) (now (out .entry)) r (now (pending .exit)) (now (out .exit)) ⌝ }
 {
-    let config = f.config;
-    let mode = vectors::mode::mode(&config, s);
+    let mode = vectors::mode::mode(&f.config, s);
     match mode {
         Mode::Pin => Sent {
             waiting: f.waiting,

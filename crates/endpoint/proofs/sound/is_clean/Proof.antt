@@ -5,19 +5,19 @@ use Rattle.endpoint.proofs.sound.is_clean.Statement.{statement}
 use Rattle.endpoint.proofs.sound.is_clean.Tie as tie
 
 config-clean-requires : tie.Need-config-clean-requires
-config-clean-requires c κs = start-bounds _ (endpointOf (c .before .before .before .before .args .f) (now (c .before .before .before .before .args .table)) (now (c .before .before .before .before .args .pending))) (c .before .before .before .before .pre .0) (c .before .before .before .before .pre .1)
+config-clean-requires c κs = start-bounds _ (endpointOf (c .before .before .before .before .args .t1) (now (c .before .before .before .before .args .table)) (now (c .before .before .before .before .args .pending))) (c .before .before .before .before .pre .0) (c .before .before .before .before .pre .1)
 
 returns : tie.Need-returns
 returns c = bad-config _ _ _ (c .before .config-clean .ensures) (c .if1 .taken)
 
 table-clean-requires : tie.Need-table-clean-requires
-table-clean-requires c κs = start-table _ (endpointOf (c .before .before .before .before .before .before .args .f) (now (c .before .before .before .before .before .before .args .table)) (now (c .before .before .before .before .before .before .args .pending))) (c .before .before .before .before .before .before .pre .0) (c .before .before .before .before .before .before .pre .1)
+table-clean-requires c κs = start-table _ (endpointOf (c .before .before .before .before .before .before .args .t1) (now (c .before .before .before .before .before .before .args .table)) (now (c .before .before .before .before .before .before .args .pending))) (c .before .before .before .before .before .before .pre .0) (c .before .before .before .before .before .before .pre .1)
 
 returns-2 : tie.Need-returns-2
 returns-2 c = bad-table _ _ _ (c .before .table-clean .ensures) (c .if2 .taken)
 
 waits-below-requires : tie.Need-waits-below-requires
-waits-below-requires c κs = (start-fit _ (endpointOf (c .before .before .before .before .before .before .before .before .args .f) (now (c .before .before .before .before .before .before .before .before .args .table)) (now (c .before .before .before .before .before .before .before .before .args .pending))) (c .before .before .before .before .before .before .before .before .pre .0) (c .before .before .before .before .before .before .before .before .pre .1) .capable, start-fit _ (endpointOf (c .before .before .before .before .before .before .before .before .args .f) (now (c .before .before .before .before .before .before .before .before .args .table)) (now (c .before .before .before .before .before .before .before .before .args .pending))) (c .before .before .before .before .before .before .before .before .pre .0) (c .before .before .before .before .before .before .before .before .pre .1) .pending)
+waits-below-requires c κs = (start-fit _ (endpointOf (c .before .before .before .before .before .before .before .before .args .t1) (now (c .before .before .before .before .before .before .before .before .args .table)) (now (c .before .before .before .before .before .before .before .before .args .pending))) (c .before .before .before .before .before .before .before .before .pre .0) (c .before .before .before .before .before .before .before .before .pre .1) .capable, start-fit _ (endpointOf (c .before .before .before .before .before .before .before .before .args .t1) (now (c .before .before .before .before .before .before .before .before .args .table)) (now (c .before .before .before .before .before .before .before .before .args .pending))) (c .before .before .before .before .before .before .before .before .pre .0) (c .before .before .before .before .before .before .before .before .pre .1) .pending)
 
 returns-3 : tie.Need-returns-3
 returns-3 c = bad-below _ _ _ (c .before .waits-below .ensures _) (c .if3 .taken)

@@ -8,7 +8,7 @@ msi-open-requires : tie.Need-msi-open-requires
 msi-open-requires c κs = search needs
 
 returns : tie.Need-returns
-returns c = λ t p. owed-msi _ (endpointOf _ t p) _ (c .before .before .before .before .pre .capable) (c .before .msi-open .ensures t)
+returns c = λ t p. owed-msi _ (endpointOf _ t p) _ (c .before .before .before .pre .capable) (c .msi-open .ensures t)
 
 pub msi-owed-spec : {M : Type 1} → statement M
 msi-owed-spec = tie.close (tie.spec msi-open-requires returns)
