@@ -33,8 +33,7 @@ pub fn bar_read(
     if bad_bar(s, bar, offset, width) {
         return refused(card, 4);
     }
-    let config = card.function.config;
-    if !command_bit(&config, 1) {
+    if !command_bit(&card.function.config, 1) {
         return refused(card, 5);
     }
     let value = bar_value(s, table, pending, bar, offset, width as usize);

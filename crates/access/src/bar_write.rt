@@ -46,8 +46,7 @@ fn write_entry(
 {
     let v = Vector((at / 16) as u16);
     let entry = entry_after(table, at, n, value);
-    let config = card.function.config;
-    if !is_owed(&config, s, &entry, pending, v) {
+    if !is_owed(&card.function.config, s, &entry, pending, v) {
         table_written(table, at, n, value);
         return accepted(card, Answer::Done, 0);
     }
@@ -82,8 +81,7 @@ pub fn bar_write(
     if bad_bar(s, bar, offset, width) {
         return refused(card, 4);
     }
-    let config = card.function.config;
-    if !command_bit(&config, 1) {
+    if !command_bit(&card.function.config, 1) {
         return refused(card, 5);
     }
     if !in_table(s, bar, offset) {

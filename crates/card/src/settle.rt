@@ -24,10 +24,9 @@ pub fn wiring(f: Function, wire: bool, s: Shape) -> Wiring
     requires { ⌜ FitShape s ⌝ }
     ensures { λ r. ⌜ ((t : List ℕ) → r ≡ wiring (f .line) wire (modeOf s (regs (f .config) t)) (pinNumber (regs (f .config) t)) (commandBit (regs (f .config) t) 10)) ⌝ }
 {
-    let config = f.config;
-    let mode = vectors::mode::mode(&config, s);
-    let disabled = vectors::mode::command_bit(&config, 10);
-    let pin = vectors::wire::pin_number(&config);
+    let mode = vectors::mode::mode(&f.config, s);
+    let disabled = vectors::mode::command_bit(&f.config, 10);
+    let pin = vectors::wire::pin_number(&f.config);
     Wiring {
         line: f.line,
         wire,
@@ -67,8 +66,7 @@ pub fn settle(
     if out.len() < first + rest {
         return refused(card, 6);
     }
-    let config = f.config;
-    let pin = vectors::wire::pin_number(&config);
+    let pin = vectors::wire::pin_number(&f.config);
     let at = wire::put_owed(out, owed, f.requester, pin);
     let sent = endpoint::sweep::send_owed(f, s, table, pending, &mut out[at..]);
     let function = crate::changed::with_waiting(f, sent.waiting);

@@ -47,8 +47,7 @@ fn send(card: Card, s: Shape, m: Mode, table: &[u8], v: Vector, out: &mut [u8]) 
     requires { ⌜ FitShape s × (length (now table) ≡ tableBytes s) × (v .0 < vectorCount m s) ⌝ }
     ensures { λ r. ⌜ ((p : List ℕ) → after r (now (table .entry)) p (now (out .exit)) ≡ raiseOf (worldOf card (now (table .entry)) p) (sentBy m s (worldOf card (now (table .entry)) p .endpoint) (v .0)) (now (out .entry))) ⌝ }
 {
-    let config = card.function.config;
-    let message = vectors::message::vector_message(&config, s, m, table, v);
+    let message = vectors::message::vector_message(&card.function.config, s, m, table, v);
     if out.len() < tlp::message_size(message.upper) {
         return refused(card, 6);
     }
@@ -70,8 +69,7 @@ fn raise(
     ensures { λ r. ⌜ after r (now (table .entry)) (now (pending .exit)) (now (out .exit)) ≡ raiseOf (worldOf card (now (table .entry)) (now (pending .entry))) (raiseVector m s (worldOf card (now (table .entry)) (now (pending .entry)) .endpoint) (v .0)) (now (out .entry)) ⌝ }
 {
     let f = card.function;
-    let config = f.config;
-    if vectors::open::is_open(&config, s, m, table, v) {
+    if vectors::open::is_open(&f.config, s, m, table, v) {
         return send(card, s, m, table, v, out);
     }
     if vectors::waiting::waits(m, f.waiting, pending, v) {
@@ -94,11 +92,10 @@ pub fn event(card: Card, table: &[u8], pending: &mut [u8], number: u16, out: &mu
         return refused(card, 2);
     }
     let s = checked.shape;
-    let config = card.function.config;
-    let mode = vectors::mode::mode(&config, s);
+    let mode = vectors::mode::mode(&card.function.config, s);
     if vectors::mode::is_pin(mode) {
         return accepted(card, Answer::Lost, 0);
     }
-    let v = vectors::event::event_vector(&config, s, mode, Event(number));
+    let v = vectors::event::event_vector(&card.function.config, s, mode, Event(number));
     raise(card, s, mode, v, table, pending, out)
 }
