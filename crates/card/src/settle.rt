@@ -19,16 +19,16 @@ use model::Shape;
 use wire::Wired;
 use wire::Wiring;
 
-// The small state of the wire by the registers of a function.
-pub fn wiring(f: Function, wire: bool, s: Shape) -> Wiring
+// The small state of the wire by the registers.
+pub fn wiring(config: &[u8; 256], line: bool, wire: bool, s: Shape) -> Wiring
     requires { ⌜ FitShape s ⌝ }
-    ensures { λ r. ⌜ ((t : List ℕ) → r ≡ wiring (f .line) wire (modeOf s (regs (f .config) t)) (pinNumber (regs (f .config) t)) (commandBit (regs (f .config) t) 10)) ⌝ }
+    ensures { λ r. ⌜ ((t : List ℕ) → r ≡ wiring line wire (modeOf s (regs (now (config .entry)) t)) (pinNumber (regs (now (config .entry)) t)) (commandBit (regs (now (config .entry)) t) 10)) ⌝ }
 {
-    let mode = vectors::mode::mode(&f.config, s);
-    let disabled = vectors::mode::command_bit(&f.config, 10);
-    let pin = vectors::wire::pin_number(&f.config);
+    let mode = vectors::mode::mode(config, s);
+    let disabled = vectors::mode::command_bit(config, 10);
+    let pin = vectors::wire::pin_number(config);
     Wiring {
-        line: f.line,
+        line,
         wire,
         mode,
         pin,
@@ -36,12 +36,12 @@ pub fn wiring(f: Function, wire: bool, s: Shape) -> Wiring
     }
 }
 
-// The wire goes to the level that it should have by the registers of a function.
-pub fn settle_wire(f: Function, wire: bool, s: Shape) -> Wired
+// The wire goes to the level that it should have by the registers.
+pub fn settle_wire(config: &[u8; 256], line: bool, wire: bool, s: Shape) -> Wired
     requires { ⌜ FitShape s ⌝ }
-    ensures { λ r. ⌜ ((t : List ℕ) → (r .wiring .wire ≡ wireDue s (f .line) (regs (f .config) t)) × (r .owed ≡ owedOf wire (wireDue s (f .line) (regs (f .config) t)))) ⌝ }
+    ensures { λ r. ⌜ ((t : List ℕ) → (r .wiring .wire ≡ wireDue s line (regs (now (config .entry)) t)) × (r .owed ≡ owedOf wire (wireDue s line (regs (now (config .entry)) t)))) ⌝ }
 {
-    let before = wiring(f, wire, s);
+    let before = wiring(config, line, wire, s);
     let mode = before.mode;
     let disabled = before.disabled;
     before.set_mode(mode, disabled)
@@ -59,7 +59,7 @@ pub fn settle(
     requires { ⌜ Ready s (endpointOf f (now table) (now pending)) ⌝ }
     ensures { λ r. ⌜ after r (now (table .entry)) (now (pending .exit)) (now (out .exit)) ≡ settleOf card s (endpointOf f (now (table .entry)) (now (pending .entry))) (worldOf card (now (table .entry)) (now (pending .entry))) (now (out .entry)) ⌝ }
 {
-    let wired = settle_wire(f, card.wire, s);
+    let wired = settle_wire(&f.config, f.line, card.wire, s);
     let owed = wired.owed;
     let first = wire::owed_size(owed);
     let rest = endpoint::sweep::owed_size(f, s, table, pending);

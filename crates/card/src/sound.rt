@@ -10,8 +10,7 @@ use model::Card;
 pub fn check(card: Card, table: &[u8], pending: &[u8]) -> Soundness
     ensures { λ r. ⌜ (r .shape ≡ shapeOf (card .function .config)) × (r .sound ≡ sound (worldOf card (now (table .entry)) (now (pending .entry)))) ⌝ }
 {
-    let f = card.function;
-    let found = endpoint::sound::check(f, table, pending);
+    let found = endpoint::sound::check(card.function, table, pending);
     let s = found.shape;
     if !found.sound {
         return Soundness {
@@ -19,7 +18,7 @@ pub fn check(card: Card, table: &[u8], pending: &[u8]) -> Soundness
             shape: s,
         };
     }
-    let wired = crate::settle::settle_wire(f, card.wire, s);
+    let wired = crate::settle::settle_wire(&card.function.config, card.function.line, card.wire, s);
     let level = wired.wiring.wire;
     Soundness {
         sound: card.wire == level,

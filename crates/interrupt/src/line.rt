@@ -18,7 +18,7 @@ pub fn line(card: Card, table: &[u8], pending: &[u8], level: bool, out: &mut [u8
         return refused(card, 1);
     }
     let f = card.function;
-    let before = card::settle::wiring(f, card.wire, checked.shape);
+    let before = card::settle::wiring(&f.config, f.line, card.wire, checked.shape);
     let wired = before.set_line(level);
     let owed = wired.owed;
     if out.len() < wire::owed_size(owed) {

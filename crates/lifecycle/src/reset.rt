@@ -19,7 +19,7 @@ pub fn reset(card: Card, table: &mut [u8], pending: &mut [u8], out: &mut [u8]) -
     }
     let f = card.function;
     let s = checked.shape;
-    let before = card::settle::wiring(f, card.wire, s);
+    let before = card::settle::wiring(&f.config, f.line, card.wire, s);
     let wired = before.set_wire(false);
     let owed = wired.owed;
     if out.len() < wire::owed_size(owed) {

@@ -13,7 +13,7 @@ pin-number-requires : tie.Need-pin-number-requires
 pin-number-requires c κs = search needs
 
 returns : tie.Need-returns
-returns c = λ t. wiring-is _ _ _ _ _ _ _ ((c .before .before .before .before .before .before .mode .ensures) t) ((c .pin-number .ensures) t) ((c .before .before .before .command-bit .ensures) t)
+returns c = λ t. wiring-is _ _ _ _ _ _ _ ((c .before .before .mode .ensures) t) ((c .pin-number .ensures) t) ((c .before .command-bit .ensures) t)
 
 pub wiring-spec : {M : Type 1} → statement M
 wiring-spec = tie.close (tie.spec mode-requires command-bit-requires pin-number-requires returns)

@@ -21,7 +21,7 @@ returns : tie.Need-returns
 returns c = refused-unsound _ _ _ _ _ (line-output _ _) _ (c .before .before .before .check .ensures .1) _ (c .before .if1 .taken) (c .refused .ensures)
 
 wiring-requires : tie.Need-wiring-requires
-wiring-requires c κs = fits-now (worldOf (c .before .before .before .before .before .before .before .args .card) (now (c .before .before .before .before .before .before .before .args .table)) (now (c .before .before .before .before .before .before .before .args .pending))) _ _ (c .before .before .before .check .ensures .1) (c .before .before .before .check .ensures .0) (c .before .if1 .left)
+wiring-requires c κs = fits-now (worldOf (c .before .before .before .before .before .before .before .before .before .args .card) (now (c .before .before .before .before .before .before .before .before .before .args .table)) (now (c .before .before .before .before .before .before .before .before .before .args .pending))) _ _ (c .before .before .before .before .before .check .ensures .1) (c .before .before .before .before .before .check .ensures .0) (c .before .before .before .if1 .left)
 
 set-line-requires : tie.Need-set-line-requires
 set-line-requires c κs = search needs
@@ -33,10 +33,10 @@ refused-requires-2 : tie.Need-refused-requires-2
 refused-requires-2 c κs = search needs
 
 returns-2 : tie.Need-returns-2
-returns-2 c = line-short _ _ _ _ _ (is-sound-now (worldOf (c .before .before .before .before .before .before .before .before .before .before .before .before .args .card) (now (c .before .before .before .before .before .before .before .before .before .before .before .before .args .table)) (now (c .before .before .before .before .before .before .before .before .before .before .before .before .args .pending))) _ (c .before .before .before .before .before .before .before .before .check .ensures .1) (c .before .before .before .before .before .before .if1 .left)) _ _ (c .before .before .before .before .before .before .before .before .check .ensures .0) (settled-line _ _ _ _ _ _ ((c .before .before .before .before .wiring .ensures) (now (c .before .before .before .before .before .before .before .before .before .before .before .before .args .table))) _ (c .before .before .before .set-line .ensures) .1) _ _ (c .before .before .owed-size .ensures) (c .before .if2 .taken) (c .refused2 .ensures)
+returns-2 c = line-short _ _ _ _ _ (is-sound-now (worldOf (c .before .before .before .before .before .before .before .before .before .before .before .before .before .before .args .card) (now (c .before .before .before .before .before .before .before .before .before .before .before .before .before .before .args .table)) (now (c .before .before .before .before .before .before .before .before .before .before .before .before .before .before .args .pending))) _ (c .before .before .before .before .before .before .before .before .before .before .check .ensures .1) (c .before .before .before .before .before .before .before .before .if1 .left)) _ _ (c .before .before .before .before .before .before .before .before .before .before .check .ensures .0) (settled-line _ _ _ _ _ _ ((c .before .before .before .before .wiring .ensures) (now (c .before .before .before .before .before .before .before .before .before .before .before .before .before .before .args .table))) _ (c .before .before .before .set-line .ensures) .1) _ _ (c .before .before .owed-size .ensures) (c .before .if2 .taken) (c .refused2 .ensures)
 
 put-owed-requires : tie.Need-put-owed-requires
-put-owed-requires c κs = (let e = ap (λ (x : Wiring). x .pin) ((c .before .before .before .before .wiring .ensures) (now (c .before .before .before .before .before .before .before .before .before .before .before .before .args .table))) in omega (arith, e, pin-now (worldOf (c .before .before .before .before .before .before .before .before .before .before .before .before .args .card) (now (c .before .before .before .before .before .before .before .before .before .before .before .before .args .table)) (now (c .before .before .before .before .before .before .before .before .before .before .before .before .args .pending))) _ (c .before .before .before .before .before .before .before .before .check .ensures .1) (c .before .before .before .before .before .before .if1 .left)), omega (arith, (c .before .if2 .left), (c .before .before .owed-size .ensures)))
+put-owed-requires c κs = (let e = ap (λ (x : Wiring). x .pin) ((c .before .before .before .before .wiring .ensures) (now (c .before .before .before .before .before .before .before .before .before .before .before .before .before .before .args .table))) in omega (arith, e, pin-now (worldOf (c .before .before .before .before .before .before .before .before .before .before .before .before .before .before .args .card) (now (c .before .before .before .before .before .before .before .before .before .before .before .before .before .before .args .table)) (now (c .before .before .before .before .before .before .before .before .before .before .before .before .before .before .args .pending))) _ (c .before .before .before .before .before .before .before .before .before .before .check .ensures .1) (c .before .before .before .before .before .before .before .before .if1 .left)), omega (arith, (c .before .if2 .left), (c .before .before .owed-size .ensures)))
 
 with-line-requires : tie.Need-with-line-requires
 with-line-requires c κs = search needs
@@ -48,7 +48,7 @@ same-length : tie.Need-same-length
 same-length c = search needs
 
 returns-3 : tie.Need-returns-3
-returns-3 c = line-done _ _ _ _ _ (is-sound-now (worldOf (c .before .before .before .before .before .before .before .before .before .before .before .before .before .before .before .before .before .args .card) (now (c .before .before .before .before .before .before .before .before .before .before .before .before .before .before .before .before .before .args .table)) (now (c .before .before .before .before .before .before .before .before .before .before .before .before .before .before .before .before .before .args .pending))) _ (c .before .before .before .before .before .before .before .before .before .before .before .before .before .check .ensures .1) (c .before .before .before .before .before .before .before .before .before .before .before .if1 .left)) _ _ (c .before .before .before .before .before .before .before .before .before .before .before .before .before .check .ensures .0) (settled-line _ _ _ _ _ _ ((c .before .before .before .before .before .before .before .before .before .wiring .ensures) (now (c .before .before .before .before .before .before .before .before .before .before .before .before .before .before .before .before .before .args .table))) _ (c .before .before .before .before .before .before .before .before .set-line .ensures) .1) _ _ _ _ _ _ _ (c .before .before .before .before .before .before .before .owed-size .ensures) (c .before .before .before .before .before .before .if2 .left) (ap (λ (x : Wiring). x .pin) ((c .before .before .before .before .before .before .before .before .before .wiring .ensures) (now (c .before .before .before .before .before .before .before .before .before .before .before .before .before .before .before .before .before .args .table)))) (c .before .before .before .before .put-owed .ensures) (settled-line _ _ _ _ _ _ ((c .before .before .before .before .before .before .before .before .before .wiring .ensures) (now (c .before .before .before .before .before .before .before .before .before .before .before .before .before .before .before .before .before .args .table))) _ (c .before .before .before .before .before .before .before .before .set-line .ensures) .0) (c .before .with-line .ensures) (c .accepted .ensures)
+returns-3 c = line-done _ _ _ _ _ (is-sound-now (worldOf (c .before .before .before .before .before .before .before .before .before .before .before .before .before .before .before .before .before .before .before .args .card) (now (c .before .before .before .before .before .before .before .before .before .before .before .before .before .before .before .before .before .before .before .args .table)) (now (c .before .before .before .before .before .before .before .before .before .before .before .before .before .before .before .before .before .before .before .args .pending))) _ (c .before .before .before .before .before .before .before .before .before .before .before .before .before .before .before .check .ensures .1) (c .before .before .before .before .before .before .before .before .before .before .before .before .before .if1 .left)) _ _ (c .before .before .before .before .before .before .before .before .before .before .before .before .before .before .before .check .ensures .0) (settled-line _ _ _ _ _ _ ((c .before .before .before .before .before .before .before .before .before .wiring .ensures) (now (c .before .before .before .before .before .before .before .before .before .before .before .before .before .before .before .before .before .before .before .args .table))) _ (c .before .before .before .before .before .before .before .before .set-line .ensures) .1) _ _ _ _ _ _ _ (c .before .before .before .before .before .before .before .owed-size .ensures) (c .before .before .before .before .before .before .if2 .left) (ap (λ (x : Wiring). x .pin) ((c .before .before .before .before .before .before .before .before .before .wiring .ensures) (now (c .before .before .before .before .before .before .before .before .before .before .before .before .before .before .before .before .before .before .before .args .table)))) (c .before .before .before .before .put-owed .ensures) (settled-line _ _ _ _ _ _ ((c .before .before .before .before .before .before .before .before .before .wiring .ensures) (now (c .before .before .before .before .before .before .before .before .before .before .before .before .before .before .before .before .before .before .before .args .table))) _ (c .before .before .before .before .before .before .before .before .set-line .ensures) .0) (c .before .with-line .ensures) (c .accepted .ensures)
 
 pub line-spec : {M : Type 1} → statement M
 line-spec =
