@@ -14,7 +14,8 @@ use Rattle.model.specs.Release.{owedNow}
 use Rattle.model.specs.Start.{startRefusal}
 use Rattle.model.specs.Sound.{givenOf, shape, zeroBits, waitsBelow, isEmpty, soundEndpoint}
 use Rattle.model.specs.Fit.{Fit}
-use Rattle.model.specs.Ready.{Below, Ready}
+use Rattle.release.specs.Owed.{Lent}
+use Rattle.release.proofs.OwedLaws.{lent}
 use Rattle.model.proofs.SoundLaws.{accepts}
 use Rattle.model.proofs.StartLaws.{msi-high}
 use Rattle.model.proofs.FitLaws.{fit}
@@ -29,21 +30,7 @@ module _ (s : Shape) (u : Endpoint) (e : s ≡ shape u) (k : startRefusal (given
   pub start-bounds : MsiBounds s
   start-bounds = record { ends = start-fit .msi; capable = start-fit .capable; high = rw e (msi-high (u .function .config)) }
 
-  pub start-table : length (u .table) ≡ 16 * s .msix .vectors
-  unfolding tableBytes
-  start-table = start-fit .table
-
 module _ (s : Shape) (u : Endpoint) (c t w : Bool) (ec : c ≡ zeroBits (storedZero s) (u .function .config)) (et : t ≡ zeroBits entryZero (u .table)) (ew : w ≡ waitsBelow s u) where
-  -- all three pass
-  pub all-clean : s ≡ shape u → startRefusal (givenOf u) ≡ 0 → not c ≡ false → not t ≡ false → not w ≡ false → Ready s u
-  all-clean e k nc nt nw = record {
-    shaped = sym e;
-    start = k;
-    config = sym ec ∙ not-false c nc;
-    table = sym et ∙ not-false t nt;
-    below = below s u (sym ew ∙ not-false w nw);
-  }
-
   pub by-owed : (r : Bool) → startRefusal (givenOf u) ≡ 0 → not c ≡ false → not t ≡ false → not w ≡ false → r ≡ isEmpty (owedNow s u) → r ≡ soundEndpoint s u
   by-owed r k nc nt nw q = q ∙ sym (sound-owed s u k (sym ec ∙ not-false c nc) (sym et ∙ not-false t nt) (sym ew ∙ not-false w nw))
 
@@ -61,3 +48,7 @@ bad-start s u n e z = sym (unsound-start s u n (sym e) (ne-eqb n 0 z))
 
 pub with-shape : (s t : Shape) (u : Endpoint) (r : Bool) → s ≡ t → r ≡ soundEndpoint s u → r ≡ soundEndpoint t u
 with-shape s t u r e k = rw (← e) k
+
+-- no waiting bit beyond the card's vectors
+pub all-lent : (s : Shape) (u : Endpoint) (w : Bool) → Fit s (length (u .table)) (length (u .pending)) → w ≡ waitsBelow s u → not w ≡ false → Lent (u .table) (u .pending)
+all-lent s u w f e n = lent s u f (below s u (sym e ∙ not-false w n))

@@ -13,6 +13,7 @@ ghost use Rattle.model.specs.Release.{sweepBytes, swept};
 ghost use Rattle.model.specs.Ready.{Ready};
 ghost use Rattle.vectors.specs.Given.{FitShape};
 ghost use Rattle.release.specs.Owed.{setBits, Lent};
+ghost use Rattle.endpoint.specs.Parts.{eachOf};
 ghost use Rattle.endpoint.specs.Sweeps.{bytesFor, sweptFor, Swept};
 use model::Function;
 use model::Mode;
@@ -25,19 +26,19 @@ pub struct Sent {
 }
 
 // The open waiting vectors of MSI, a bit for each.
-pub fn msi_owed(f: Function, s: Shape) -> u32
+pub fn msi_owed(config: &[u8; 256], waiting: u32, s: Shape) -> u32
     requires { ⌜ FitShape s ⌝ }
-    ensures { λ r. ⌜ ((t p : List ℕ) → owed Mode.Msi s (endpointOf f t p) ≡ setBits 32 r) ⌝ }
+    ensures { λ r. ⌜ eachOf (now (config .entry)) waiting (λ f. (t p : List ℕ) → owed Mode.Msi s (endpointOf f t p) ≡ setBits 32 r) ⌝ }
 {
-    let open = vectors::msi::msi_open(&f.config, s);
-    open & f.waiting
+    let open = vectors::msi::msi_open(config, s);
+    open & waiting
 }
 
 fn msi_size(f: Function, s: Shape) -> usize
     requires { ⌜ FitShape s ⌝ }
     ensures { λ r. ⌜ ((t p : List ℕ) → r ≡ length (bytesFor Mode.Msi s (endpointOf f t p))) ⌝ }
 {
-    let owed = msi_owed(f, s);
+    let owed = msi_owed(&f.config, f.waiting, s);
     let base = vectors::message::msi_base(&f.config, s);
     release::msi::msi_size(owed, base.upper)
 }
@@ -69,7 +70,7 @@ fn msi_send(f: Function, s: Shape, out: &mut [u8]) -> Sent
     requires { ⌜ FitShape s × ((t p : List ℕ) → length (bytesFor Mode.Msi s (endpointOf f t p)) ≤ length (now out)) ⌝ }
     ensures { λ r. ⌜ ((t p : List ℕ) → Swept (bytesFor Mode.Msi s (endpointOf f t p)) (endpointOf f t p) (sweptFor Mode.Msi s (endpointOf f t p)) (now (out .entry)) r p (now (out .exit))) ⌝ }
 {
-    let owed = msi_owed(f, s);
+    let owed = msi_owed(&f.config, f.waiting, s);
     let base = vectors::message::msi_base(&f.config, s);
     let n = release::msi::msi_send(out, f.requester, base.upper, base.address, base.value, owed);
     Sent {

@@ -14,13 +14,13 @@ msi-base-requires : tie.Need-msi-base-requires
 msi-base-requires c κs = search needs
 
 msi-send-requires : tie.Need-msi-send-requires
-msi-send-requires c κs = (c .before .msi-base .ensures .1, rw (msi-bytes _ (endpointOf _ [] []) _ _ (c .before .before .before .before .msi-owed .ensures [] []) (c .before .msi-base .ensures .0 [])) at (c .before .before .before .before .before .before .pre .1 [] []))
+msi-send-requires c κs = (c .before .msi-base .ensures .1, rw (msi-bytes _ (endpointOf _ [] []) _ _ (c .before .before .before .before .msi-owed .ensures (c .before .before .before .before .before .before .before .before .args .t1 .sizes) (c .before .before .before .before .before .before .before .before .args .t1 .events) (c .before .before .before .before .before .before .before .before .args .t1 .requester) (c .before .before .before .before .before .before .before .before .args .t1 .line) [] []) (c .before .msi-base .ensures .0 [])) at (c .before .before .before .before .before .before .before .before .pre .1 [] []))
 
 same-length : tie.Need-same-length
 same-length c = search needs
 
 returns : tie.Need-returns
-returns c = λ t p. msi-sent _ (endpointOf _ t p) _ _ _ _ _ _ (c .before .before .before .before .before .before .before .msi-owed .ensures t p) (c .before .before .before .before .msi-base .ensures .0 t) (search needs) (and-not 32 _ _ (search needs) (search needs)) (c .before .before .msi-send .ensures)
+returns c = λ t p. msi-sent _ (endpointOf _ t p) _ _ _ _ _ _ (c .before .before .before .before .before .before .before .msi-owed .ensures _ _ _ _ t p) (c .before .before .before .before .msi-base .ensures .0 t) (search needs) (and-not 32 _ _ (search needs) (search needs)) (c .before .before .msi-send .ensures)
 
 pub msi-send-spec : {M : Type 1} → statement M
 msi-send-spec =

@@ -16,7 +16,7 @@ msi-size-requires : tie.Need-msi-size-requires
 msi-size-requires c κs = search needs
 
 returns : tie.Need-returns
-returns c = λ t p. c .msi-size .ensures _ _ _ ∙ sym (ap length (msi-bytes _ (endpointOf _ t p) _ _ (c .before .before .before .before .msi-owed .ensures t p) (c .before .msi-base .ensures .0 t)))
+returns c = λ t p. c .msi-size .ensures _ _ _ ∙ sym (ap length (msi-bytes _ (endpointOf _ t p) _ _ (c .before .before .before .before .msi-owed .ensures _ _ _ _ t p) (c .before .msi-base .ensures .0 t)))
 
 pub msi-size-spec : {M : Type 1} → statement M
 msi-size-spec = tie.close (tie.spec msi-owed-requires msi-base-requires msi-size-requires returns)
