@@ -28,7 +28,7 @@ fn part_end(at: usize, n: usize) -> usize
     if n < 256 - at { at + n } else { 256 }
 }
 
-// The bytes from place lo to hi - 1.
+// The same for the bytes from place lo to hi - 1.
 fn fix_part(config: &mut [u8], s: Shape, lo: usize, hi: usize)
     requires { ⌜ (length (now config) ≡ 256) × (hi ≤ 256) × (s .msi .capable ≤ 5) ⌝ }
     ensures { λ r. ⌜ ((k : ℕ) → byte (now (config .exit)) k ≡ partFixed s lo hi (now (config .entry)) k) ⌝ }
@@ -38,7 +38,7 @@ fn fix_part(config: &mut [u8], s: Shape, lo: usize, hi: usize)
     }
 }
 
-// Made of zeros, then filled byte by byte. No other part has a writable bit or one that is stored as 0.
+// Made of zeros, then filled byte by byte; then the parts that have writable bits or bits that are stored as 0.
 fn started_bytes(c: &[u8], s: Shape) -> [u8; 256]
     requires { ⌜ (length (now c) ≡ 256) × (s .msi .capable ≤ 5) ⌝ }
     ensures { λ r. ⌜ r ≡ startedConfig s (now (c .entry)) ⌝ }
