@@ -62,32 +62,32 @@ element-copy-out-shown-byte : tie.Need-element-copy-out-shown-byte Inv-loop μ-l
 element-copy-out-shown-byte c = search needs
 
 shown-byte-requires : tie.Need-shown-byte-requires Inv-loop μ-loop
-shown-byte-requires c κs = ((c .before .before .before .pre .2), λ e. rw e (room ((c .before .before .before))))
+shown-byte-requires c κs = (c .before .before .before .pre .2, λ e. rw e (room (c .before .before .before)))
 
 cast-r : tie.Need-cast-r Inv-loop μ-loop
 cast-r c = search needs
 
 add-r : tie.Need-add-r Inv-loop μ-loop
-add-r c = omega (arith, small ((c .before .before)))
+add-r c = omega (arith, small (c .before .before))
 
 loop-less : tie.Need-loop-less Inv-loop μ-loop
 loop-less c = search needs
 
 loop-again : tie.Need-loop-again Inv-loop μ-loop
 loop-again c =
-    let v = (c .before .before .before .loop) in
-    let a = (c .before .before .before .before .args) in
+    let v = c .before .before .before .loop in
+    let a = c .before .before .before .before .args in
     let g = shown (a .s) (endpointOf (a .t1) [] []) in
     let i = a .at + (v .left - 1) in
     let m = a .n - v .left in
     let e : a .n - (v .left - 1) ≡ suc m = omega arith in
     let d : suc i ≡ a .at + v .left = omega arith in
-    (omega arith, rw e (omega (arith, number-more g i m, ap (λ (k : ℕ). number g k m) d, v .inv .1, (c .shown-byte .ensures) ∙ shown-stored (a .s) (a .t1) i)))
+    (omega arith, rw e (omega (arith, number-more g i m, ap (λ (k : ℕ). number g k m) d, v .inv .1, c .shown-byte .ensures ∙ shown-stored (a .s) (a .t1) i)))
 
 returns : tie.Need-returns Inv-loop μ-loop
 returns c =
-    let v = (c .before .loop) in
-    let a = (c .before .before .args) in
+    let v = c .before .loop in
+    let a = c .before .before .args in
     let p : a .at + v .left ≡ a .at = omega arith in
     let q : a .n - v .left ≡ a .n = omega arith in
     v .inv .1 ∙ ap₂ (number (shown (a .s) (endpointOf (a .t1) [] []))) p q

@@ -10,39 +10,56 @@ use Rattle.registers.proofs.config.shown_byte.Statement.{statement}
 use Rattle.registers.proofs.config.shown_byte.Tie as tie
 
 status-requires : tie.Need-status-requires
-status-requires c κs = (c .before .pre .1) ((c .if1 .taken))
+status-requires c κs = c .before .pre .1 (c .if1 .taken)
 
 returns : tie.Need-returns
-returns c = (c .status .ensures) ∙ shown-status ((c .before .before .args .s)) ((c .before .before .args .line)) ((c .before .before .args .waiting)) ((c .before .before .args .i)) ((c .before .before .args .b)) ((c .before .if1 .taken))
+returns c =
+    let a = c .before .before .args in
+    c .status .ensures ∙ shown-status (a .s) (a .line) (a .waiting) (a .i) (a .b) (c .before .if1 .taken)
 
 returns-2 : tie.Need-returns-2
-returns-2 c = shown-unmasked ((c .before .before .before .args .s)) ((c .before .before .before .args .line)) ((c .before .before .before .args .waiting)) ((c .before .before .before .args .i)) ((c .before .before .before .args .b)) ((c .before .before .if1 .left)) (not-true _ ((c .if2 .taken)))
+returns-2 c =
+    let a = c .before .before .before .args in
+    shown-unmasked (a .s) (a .line) (a .waiting) (a .i) (a .b) (c .before .before .if1 .left) (not-true _ (c .if2 .taken))
 
 returns-3 : tie.Need-returns-3
-returns-3 c = shown-absent ((c .before .before .before .before .before .args .s)) ((c .before .before .before .before .before .args .line)) ((c .before .before .before .before .before .args .waiting)) ((c .before .before .before .before .before .args .i)) ((c .before .before .before .before .before .args .b)) ((c .before .before .before .before .if1 .left)) ((c .if3 .taken))
+returns-3 c =
+    let a = c .before .before .before .before .before .args in
+    shown-absent (a .s) (a .line) (a .waiting) (a .i) (a .b) (c .before .before .before .before .if1 .left) (c .if3 .taken)
 
 form-requires : tie.Need-form-requires
 form-requires c κs = search needs
 
 add-at : tie.Need-add-at
-add-at c = omega (arith, (c .before .before .before .before .before .before .before .before .pre .0), pending-fits ((c .before .before .before .before .before .before .before .before .args .s)) ((c .before .before .form .result)) ((c .before .before .form .ensures)) (not-false _ ((c .before .before .before .before .before .if2 .left))))
+add-at c =
+    let g = c .before .before .form in
+    omega (arith, c .before .before .before .before .before .before .before .before .pre .0, pending-fits (c .before .before .before .before .before .before .before .before .args .s) (g .result) (g .ensures) (not-false _ (c .before .before .before .before .before .if2 .left)))
 
 within-requires : tie.Need-within-requires
 within-requires c κs = search needs
 
 sub-byte-of : tie.Need-sub-byte-of
-sub-byte-of c = within-true ((c .before .before .before .before .before .before .before .before .before .before .args .s .msi .at) + (c .before .before .before .before .form .result .pending)) 4 ((c .before .before .before .before .before .before .before .before .before .before .args .i)) (sym ((c .before .within .ensures)) ∙ (c .if4 .taken)) .0
+sub-byte-of c =
+    let a = c .before .before .before .before .before .before .before .before .before .before .args in
+    within-true (a .s .msi .at + c .before .before .before .before .form .result .pending) 4 (a .i) (sym (c .before .within .ensures) ∙ c .if4 .taken) .0
 
 byte-of-requires : tie.Need-byte-of-requires
 byte-of-requires c κs =
-    let w = within-true ((c .before .before .before .before .before .before .before .before .before .before .args .s .msi .at) + (c .before .before .before .before .form .result .pending)) 4 ((c .before .before .before .before .before .before .before .before .before .before .args .i)) (sym ((c .before .within .ensures)) ∙ (c .if4 .taken)) in
+    let a = c .before .before .before .before .before .before .before .before .before .before .args in
+    let w = within-true (a .s .msi .at + c .before .before .before .before .form .result .pending) 4 (a .i) (sym (c .before .within .ensures) ∙ c .if4 .taken) in
     omega (arith, w .0, w .1)
 
 returns-4 : tie.Need-returns-4
-returns-4 c = (c .byte-of .ensures) ∙ shown-pending ((c .before .before .before .before .before .before .before .before .before .before .before .args .s)) ((c .before .before .before .before .before .before .before .before .before .before .before .args .line)) ((c .before .before .before .before .before .before .before .before .before .before .before .args .waiting)) ((c .before .before .before .before .before .before .before .before .before .before .before .args .i)) ((c .before .before .before .before .before .before .before .before .before .before .before .args .b)) ((c .before .before .before .before .before .before .before .before .before .before .if1 .left)) ((c .before .before .before .before .before .form .result)) ((c .before .before .before .before .before .form .ensures)) (not-false _ ((c .before .before .before .before .before .before .before .before .if2 .left))) ((c .before .before .before .before .before .before .if3 .left)) (sym ((c .before .before .within .ensures)) ∙ (c .before .if4 .taken))
+returns-4 c =
+    let a = c .before .before .before .before .before .before .before .before .before .before .before .args in
+    let g = c .before .before .before .before .before .form in
+    c .byte-of .ensures ∙ shown-pending (a .s) (a .line) (a .waiting) (a .i) (a .b) (c .before .before .before .before .before .before .before .before .before .before .if1 .left) (g .result) (g .ensures) (not-false _ (c .before .before .before .before .before .before .before .before .if2 .left)) (c .before .before .before .before .before .before .if3 .left) (sym (c .before .before .within .ensures) ∙ c .before .if4 .taken)
 
 returns-5 : tie.Need-returns-5
-returns-5 c = shown-other ((c .before .before .before .before .before .before .before .before .before .before .args .s)) ((c .before .before .before .before .before .before .before .before .before .before .args .line)) ((c .before .before .before .before .before .before .before .before .before .before .args .waiting)) ((c .before .before .before .before .before .before .before .before .before .before .args .i)) ((c .before .before .before .before .before .before .before .before .before .before .args .b)) ((c .before .before .before .before .before .before .before .before .before .if1 .left)) ((c .before .before .before .before .form .result)) ((c .before .before .before .before .form .ensures)) (not-false _ ((c .before .before .before .before .before .before .before .if2 .left))) ((c .before .before .before .before .before .if3 .left)) (sym ((c .before .within .ensures)) ∙ (c .if4 .left))
+returns-5 c =
+    let a = c .before .before .before .before .before .before .before .before .before .before .args in
+    let g = c .before .before .before .before .form in
+    shown-other (a .s) (a .line) (a .waiting) (a .i) (a .b) (c .before .before .before .before .before .before .before .before .before .if1 .left) (g .result) (g .ensures) (not-false _ (c .before .before .before .before .before .before .before .if2 .left)) (c .before .before .before .before .before .if3 .left) (sym (c .before .within .ensures) ∙ c .if4 .left)
 
 pub shown-byte-spec : {M : Type 1} → statement M
 shown-byte-spec =

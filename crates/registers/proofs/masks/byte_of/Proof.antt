@@ -18,7 +18,7 @@ cast-result-2 : tie.Need-cast-result-2
 cast-result-2 c = search needs
 
 returns : tie.Need-returns
-returns c = sym (byte-of 4 ((c .args .x)) ((c .args .k)) ((c .pre)))
+returns c = sym (byte-of 4 (c .args .x) (c .args .k) (c .pre))
 
 pub byte-of-spec : {M : Type 1} → statement M
 byte-of-spec = tie.close (tie.spec mul-result cast-result shr-result cast-result-2 returns)

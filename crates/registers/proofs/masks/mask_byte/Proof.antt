@@ -15,7 +15,7 @@ byte-of-requires c κs = search needs
 
 returns : tie.Need-returns
 unfolding maskBytes
-returns c = (c .byte-of .ensures) ∙ ap (λ (x : ℕ). byte (bytesOf 4 x) ((c .before .before .args .k))) ((c .before .mask-bits .ensures))
+returns c = c .byte-of .ensures ∙ ap (λ (x : ℕ). byte (bytesOf 4 x) (c .before .before .args .k)) (c .before .mask-bits .ensures)
 
 pub mask-byte-spec : {M : Type 1} → statement M
 mask-byte-spec = tie.close (tie.spec mask-bits-requires byte-of-requires returns)

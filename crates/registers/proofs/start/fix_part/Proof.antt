@@ -19,7 +19,9 @@ abbrev μ-loop : tie.MeasureT-loop
 μ-loop config₀ s lo hi i₀ config i = hi - i
 
 loop-holds : tie.Need-loop-holds Inv-loop μ-loop
-loop-holds c = (omega arith, omega arith, (c .before .pre .0), part-none ((c .before .args .s)) ((c .before .args .lo)) (now (c .before .args .config)))
+loop-holds c =
+    let a = c .before .args in
+    (omega arith, omega arith, c .before .pre .0, part-none (a .s) (a .lo) (now (a .config)))
 
 slice-read-fixed-byte : tie.Need-slice-read-fixed-byte Inv-loop μ-loop
 slice-read-fixed-byte c = search needs
@@ -37,13 +39,23 @@ loop-less : tie.Need-loop-less Inv-loop μ-loop
 loop-less c = search needs
 
 loop-again : tie.Need-loop-again Inv-loop μ-loop
-loop-again c = (omega arith, omega arith, simp length-set ((c .before .before .before .loop .inv .2)), part-more ((c .before .before .before .before .before .args .s)) ((c .before .before .before .before .before .args .lo)) (now (c .before .before .before .before .before .args .config)) ((c .before .before .before .loop .config)) ((c .before .before .before .loop .i)) ((c .fixed-byte .result)) (omega arith) (omega arith) ((c .before .before .before .loop .inv .3)) ((c .fixed-byte .ensures)))
+loop-again c =
+    let a = c .before .before .before .before .before .args in
+    let v = c .before .before .before .loop in (
+      omega arith,
+      omega arith,
+      simp length-set (v .inv .2),
+      part-more (a .s) (a .lo) (now (a .config)) (v .config) (v .i) (c .fixed-byte .result) (omega arith) (omega arith) (v .inv .3) (c .fixed-byte .ensures),
+    )
 
 same-length : tie.Need-same-length Inv-loop μ-loop
 same-length c = search needs
 
 returns : tie.Need-returns Inv-loop μ-loop
-returns c = λ k. (c .before .loop .inv .3) k ∙ part-all ((c .before .before .before .args .s)) ((c .before .before .before .args .lo)) (now (c .before .before .before .args .config)) ((c .before .before .before .args .hi)) ((c .before .loop .i)) (omega arith) (omega arith) k
+returns c =
+    let a = c .before .before .before .args in
+    let v = c .before .loop in
+    λ k. v .inv .3 k ∙ part-all (a .s) (a .lo) (now (a .config)) (a .hi) (v .i) (omega arith) (omega arith) k
 
 pub fix-part-spec : {M : Type 1} → statement M
 fix-part-spec =

@@ -27,7 +27,7 @@ abbrev μ-loop : tie.MeasureT-loop
 μ-loop c s config₀ i₀ config i = 256 - i
 
 loop-holds : tie.Need-loop-holds Inv-loop μ-loop
-loop-holds c = (omega arith, refl, whole (now (c .before .args .c)) _ (omega (arith, (c .before .pre .0))))
+loop-holds c = (omega arith, refl, whole (now (c .before .args .c)) _ (omega (arith, c .before .pre .0)))
 
 shared-slice-read-config : tie.Need-shared-slice-read-config Inv-loop μ-loop
 shared-slice-read-config c = search needs
@@ -43,9 +43,9 @@ loop-less c = search needs
 
 loop-again : tie.Need-loop-again Inv-loop μ-loop
 loop-again c =
-    let v = (c .before .before .loop) in
-    let o = (now (c .before .before .before .before .args .c)) in
-    let h : v .i < length o = omega (arith, (c .before .before .before .before .pre .0)) in
+    let v = c .before .before .loop in
+    let o = now (c .before .before .before .before .args .c) in
+    let h : v .i < length o = omega (arith, c .before .before .before .before .pre .0) in
     let e : drop (v .i) o ≡ byte o (v .i) ∷ drop (v .i + 1) o = rw add-one (drop-cons o (v .i) 0 h) in
     (omega arith, simp length-set (v .inv .1), put-next (v .i) (byte o (v .i)) _ _ (v .config) _ (omega arith) e (v .inv .2))
 
@@ -56,13 +56,13 @@ slice-aggregate-fix-part : tie.Need-slice-aggregate-fix-part Inv-loop μ-loop
 slice-aggregate-fix-part c = search needs
 
 fix-part-requires : tie.Need-fix-part-requires Inv-loop μ-loop
-fix-part-requires c κs = ((c .before .before .before .loop .inv .1), omega arith, (c .before .before .before .before .before .pre .1))
+fix-part-requires c κs = (c .before .before .before .loop .inv .1, omega arith, c .before .before .before .before .before .pre .1)
 
 slice-aggregate-fix-part-2 : tie.Need-slice-aggregate-fix-part-2 Inv-loop μ-loop
 slice-aggregate-fix-part-2 c = search needs
 
 fix-part-requires-2 : tie.Need-fix-part-requires-2 Inv-loop μ-loop
-fix-part-requires-2 c κs = (search needs, omega arith, (c .before .before .before .before .before .before .before .before .pre .1))
+fix-part-requires-2 c κs = (search needs, omega arith, c .before .before .before .before .before .before .before .before .pre .1)
 
 slice-aggregate-fix-part-3 : tie.Need-slice-aggregate-fix-part-3 Inv-loop μ-loop
 slice-aggregate-fix-part-3 c = search needs
@@ -71,7 +71,7 @@ part-end-requires : tie.Need-part-end-requires Inv-loop μ-loop
 part-end-requires c κs = search needs
 
 fix-part-requires-3 : tie.Need-fix-part-requires-3 Inv-loop μ-loop
-fix-part-requires-3 c κs = (search needs, omega (arith, (c .part-end .ensures)), (c .before .before .before .before .before .before .before .before .before .before .before .before .pre .1))
+fix-part-requires-3 c κs = (search needs, omega (arith, c .part-end .ensures), c .before .before .before .before .before .before .before .before .before .before .before .before .pre .1)
 
 slice-aggregate-fix-part-4 : tie.Need-slice-aggregate-fix-part-4 Inv-loop μ-loop
 slice-aggregate-fix-part-4 c = search needs
@@ -80,17 +80,21 @@ part-end-requires-2 : tie.Need-part-end-requires-2 Inv-loop μ-loop
 part-end-requires-2 c κs = search needs
 
 fix-part-requires-4 : tie.Need-fix-part-requires-4 Inv-loop μ-loop
-fix-part-requires-4 c κs = (search needs, omega (arith, (c .part-end2 .ensures)), (c .before .before .before .before .before .before .before .before .before .before .before .before .before .before .before .before .pre .1))
+fix-part-requires-4 c κs = (search needs, omega (arith, c .part-end2 .ensures), c .before .before .before .before .before .before .before .before .before .before .before .before .before .before .before .before .pre .1)
 
 returns : tie.Need-returns Inv-loop μ-loop
 returns c =
-    let v = (c .before .before .before .before .before .before .before .before .before .before .before .before .before .before .before .before .loop) in
-    let s = (c .before .before .before .before .before .before .before .before .before .before .before .before .before .before .before .before .before .before .args .s) in
-    let o = (now (c .before .before .before .before .before .before .before .before .before .before .before .before .before .before .before .before .before .before .args .c)) in
-    let h : length o ≤ v .i = omega (arith, (c .before .before .before .before .before .before .before .before .before .before .before .before .before .before .before .before .before .before .pre .0)) in
+    let d = c .before .before .before .before .before .before .before .before .before .before .before .before .before .before .before .before .before .before in
+    let v = c .before .before .before .before .before .before .before .before .before .before .before .before .before .before .before .before .loop in
+    let s = d .args .s in
+    let o = now (d .args .c) in
+    let h : length o ≤ v .i = omega (arith, d .pre .0, c .before .before .before .before .before .before .before .before .before .before .before .before .before .before .before .loop-test .left) in
     let copied : v .config ≡ o = put-end (v .i) _ (v .config) _ (drop-of-length-le o h) (v .inv .2) in
-    four-parts s (v .config) ((c .before .before .before .before .before .before .part-end .result)) ((c .before .before .part-end2 .result)) ((c .before .before .before .before .before .before .part-end .ensures) ∙ ap (λ (f : Form). min (s .msi .at + f .size) 256) ((c .before .before .before .before .before .before .before .before .before .before .before .before .before .before .form .ensures))) ((c .before .before .part-end2 .ensures)) (v .inv .1)
-    ((c .before .before .before .before .before .before .before .before .before .before .before .before .fix-part .last .0)) ((c .before .before .before .before .before .before .before .before .before .fix-part2 .last .0)) ((c .before .before .before .before .before .fix-part3 .last .0)) ((c .before .fix-part4 .last .0)) ((c .before .before .before .before .before .before .before .before .before .before .before .before .fix-part .ensures)) ((c .before .before .before .before .before .before .before .before .before .fix-part2 .ensures)) ((c .before .before .before .before .before .fix-part3 .ensures)) ((c .before .fix-part4 .ensures)) (search needs)
+    let size = ap (λ (f : Form). min (s .msi .at + f .size) 256) (c .before .before .before .before .before .before .before .before .before .before .before .before .before .before .form .ensures) in
+    four-parts s (v .config) _ _ (c .before .before .before .before .before .before .part-end .ensures ∙ size) (c .before .before .part-end2 .ensures) (v .inv .1) _ _ _ _
+    (c .before .before .before .before .before .before .before .before .before .before .before .before .fix-part .ensures)
+    (c .before .before .before .before .before .before .before .before .before .fix-part2 .ensures)
+    (c .before .before .before .before .before .fix-part3 .ensures) (c .before .fix-part4 .ensures) (search needs)
     ∙ ap (startedConfig s) copied
 
 pub started-bytes-spec : {M : Type 1} → statement M
