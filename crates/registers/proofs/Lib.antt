@@ -6,3 +6,4 @@ pub mod ShownLaws
 pub mod StoredLaws
 pub mod BarLaws
 pub mod AccessLaws
+pub mod PartLaws

@@ -2,14 +2,16 @@
 ghost use mathlib.Core.Path.{_≡_};
 ghost use mathlib.Core.Bool.{true};
 ghost use mathlib.Core.List.{[]};
-ghost use Prim.Native.Nat.{ℕ, _+_, _*_, _≤_, _<_};
+ghost use Prim.Native.Nat.{_+_, _*_, _≤_};
 ghost use Rattle.words.specs.Bits.{ofBool};
-ghost use Rattle.words.specs.Bytes.{byte, bytesOf, number};
+ghost use Rattle.words.specs.Bytes.{bytesOf, number};
 ghost use Rattle.model.specs.World.{endpointOf};
 ghost use Rattle.model.specs.Shape.{formOf};
 ghost use Rattle.model.specs.Registers.{writable, storedZero, written, shown};
 ghost use Rattle.model.specs.Sound.{zeroBits};
-ghost use Rattle.registers.specs.Shown.{pendingShown};
+ghost use Rattle.registers.specs.Shown.{byteShown};
+use crate::masks::byte_of;
+use crate::masks::within;
 use crate::masks::writable;
 use layout::form::form;
 use model::Function;
@@ -39,33 +41,26 @@ fn status(b: u8, line: bool) -> u8
     if line { b + 8 } else { b }
 }
 
-// The waiting bits stand in MSI's Pending register.
-fn with_pending(c: [u8; 256], s: Shape, waiting: u32) -> [u8; 256]
-    requires { ⌜ s .msi .at + formOf s .size ≤ 256 ⌝ }
-    ensures { λ r. ⌜ ((i : ℕ) → i < 256 → byte r i ≡ pendingShown s waiting c i) ⌝ }
+// Byte i as it is read, stored as b: Status, or a byte of MSI's Pending register, which shows the waiting bits.
+fn shown_byte(s: Shape, line: bool, waiting: u32, i: usize, b: u8) -> u8
+    requires { ⌜ (s .msi .at + formOf s .size ≤ 256) × (i ≡ 6 → b ≤ 247) ⌝ }
+    ensures { λ r. ⌜ r ≡ byteShown s line waiting i b ⌝ }
 {
+    if i == 6 {
+        return status(b, line);
+    }
     if !s.msi.masks {
-        return c;
+        return b;
     }
     if s.msi.at == 0 {
-        return c;
+        return b;
     }
     let f = form(s);
     let at = s.msi.at + f.pending;
-    let mut config = c;
-    words::put::put_le(&mut config[at..], 4, waiting as u64);
-    config
-}
-
-// The configuration as it is read.
-fn shown(f: Function, s: Shape) -> [u8; 256]
-    requires { ⌜ (s .msi .at + formOf s .size ≤ 256) × (zeroBits (storedZero s) (f .config) ≡ true) ⌝ }
-    ensures { λ r. ⌜ ((i : ℕ) → i < 256 → byte r i ≡ shown s (endpointOf f [] []) i) ⌝ }
-{
-    let stored = f.config;
-    let mut config = with_pending(stored, s, f.waiting);
-    config[6] = status(stored[6], f.line);
-    config
+    if within(at, 4, i) {
+        return byte_of(waiting, i - at);
+    }
+    b
 }
 
 // The number of n bytes from place `at` on.
@@ -73,6 +68,12 @@ pub fn config_value(f: Function, s: Shape, at: usize, n: usize) -> u32
     requires { ⌜ (at + n ≤ 256) × (n ≤ 4) × (s .msi .at + formOf s .size ≤ 256) × (zeroBits (storedZero s) (f .config) ≡ true) ⌝ }
     ensures { λ r. ⌜ r ≡ number (shown s (endpointOf f [] [])) at n ⌝ }
 {
-    let config = shown(f, s);
-    words::get::read(&config, at, n) as u32
+    let mut r: u32 = 0;
+    let mut left = n;
+    while left != 0 {
+        left -= 1;
+        let i = at + left;
+        r = r * 256 + (shown_byte(s, f.line, f.waiting, i, f.config[i]) as u32);
+    }
+    r
 }

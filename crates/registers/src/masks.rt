@@ -2,7 +2,7 @@
 ghost use mathlib.Core.Path.{_≡_};
 ghost use Prim.Native.Nat.{_-_, _^_, _≤_, _<_};
 ghost use Rattle.words.specs.Lists.{within};
-ghost use Rattle.words.specs.Bytes.{byte};
+ghost use Rattle.words.specs.Bytes.{byte, bytesOf};
 ghost use Rattle.model.specs.Shape.{formOf};
 ghost use Rattle.model.specs.Registers.{headerWritable, msiWritable, msiZero, maskBytes, writable, storedZero};
 use layout::form::form;
@@ -25,12 +25,20 @@ pub fn mask_bits(s: Shape) -> u32
     ((1u64 << bits) - 1) as u32
 }
 
-// Byte k of them.
+// Byte k of a register.
+pub fn byte_of(x: u32, k: usize) -> u8
+    requires { ⌜ k < 4 ⌝ }
+    ensures { λ r. ⌜ r ≡ byte (bytesOf 4 x) k ⌝ }
+{
+    ((x >> (8 * k)) % 256) as u8
+}
+
+// Byte k of the mask bits.
 fn mask_byte(s: Shape, k: usize) -> u8
     requires { ⌜ (s .msi .capable ≤ 5) × (k < 4) ⌝ }
     ensures { λ r. ⌜ r ≡ byte (maskBytes s) k ⌝ }
 {
-    ((mask_bits(s) >> (8 * k)) % 256) as u8
+    byte_of(mask_bits(s), k)
 }
 
 // Command bits 1, 2 and 10, and Interrupt Line.

@@ -1,10 +1,13 @@
 // The configuration of a started card.
 ghost use mathlib.Core.Path.{_≡_};
-ghost use Prim.Native.Nat.{_≤_};
+ghost use Prim.Native.Nat.{ℕ, _+_, _≤_, min};
 ghost use lib.ListN.{length};
+ghost use Rattle.words.specs.Bytes.{byte};
 ghost use Rattle.model.specs.Registers.{fixedByte, startedConfig};
+ghost use Rattle.registers.specs.Parts.{partFixed};
 use crate::masks::stored_zero;
 use crate::masks::writable;
+use layout::form::form;
 use model::Shape;
 
 // Byte i with its writable bits 0, and those that are stored as 0.
@@ -15,15 +18,40 @@ fn fixed_byte(s: Shape, i: usize, b: u8) -> u8
     !writable(s, i) & (!stored_zero(s, i) & b)
 }
 
-// Made of zeros, then filled byte by byte.
+// Where n bytes from `at` on end, at most at 256.
+fn part_end(at: usize, n: usize) -> usize
+    ensures { λ r. ⌜ r ≡ min (at + n) 256 ⌝ }
+{
+    if 256 <= at {
+        return 256;
+    }
+    if n < 256 - at { at + n } else { 256 }
+}
+
+// The same for the bytes from place lo to hi - 1.
+fn fix_part(config: &mut [u8], s: Shape, lo: usize, hi: usize)
+    requires { ⌜ (length (now config) ≡ 256) × (hi ≤ 256) × (s .msi .capable ≤ 5) ⌝ }
+    ensures { λ r. ⌜ ((k : ℕ) → byte (now (config .exit)) k ≡ partFixed s lo hi (now (config .entry)) k) ⌝ }
+{
+    for i in lo..hi {
+        config[i] = fixed_byte(s, i, config[i]);
+    }
+}
+
+// Made of zeros, then filled byte by byte; then the parts that have writable bits or bits that are stored as 0.
 fn started_bytes(c: &[u8], s: Shape) -> [u8; 256]
     requires { ⌜ (length (now c) ≡ 256) × (s .msi .capable ≤ 5) ⌝ }
     ensures { λ r. ⌜ r ≡ startedConfig s (now (c .entry)) ⌝ }
 {
     let mut config = [0; 256];
     for i in 0..256usize {
-        config[i] = fixed_byte(s, i, c[i]);
+        config[i] = c[i];
     }
+    let f = form(s);
+    fix_part(&mut config, s, 4, 8);
+    fix_part(&mut config, s, 0x3c, 0x3d);
+    fix_part(&mut config, s, s.msi.at, part_end(s.msi.at, f.size));
+    fix_part(&mut config, s, s.msix.at, part_end(s.msix.at, 4));
     config
 }
 

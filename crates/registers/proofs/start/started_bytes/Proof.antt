@@ -1,7 +1,7 @@
--- The bytes from place i on are still to be stored. Assumes nothing.
-use mathlib.Core.Path.{_≡_, refl, sym, ap, _∙_}
+-- The bytes of c from place i on are still to be stored; then four parts are fixed. Assumes nothing.
+use mathlib.Core.Path.{_≡_, refl, ap, _∙_}
 use mathlib.Core.List.{List, _∷_, append-nil}
-use Prim.Native.Nat.{ℕ, suc, _+_, _-_, _≤_, _<_}
+use Prim.Native.Nat.{ℕ, _+_, _-_, _≤_, _<_, min}
 use native.Mathlib.Numerals.{add-one}
 use native.Mathlib.Omega.{arith}
 use lib.ListN.{length, drop, length-set, drop-of-length-le}
@@ -10,9 +10,9 @@ use denote.Ref.{now}
 use Rattle.words.specs.Bytes.{byte}
 use Rattle.words.specs.Writers.{putAt}
 use Rattle.words.proofs.PutLaws.{put-next, put-end}
-use Rattle.model.specs.declared.Shape.{Shape}
-use Rattle.model.specs.Registers.{fixedByte, startedConfig}
-use Rattle.model.proofs.FixedLaws.{length-started, byte-started}
+use Rattle.model.specs.declared.Form.{Form}
+use Rattle.model.specs.Registers.{startedConfig}
+use Rattle.registers.proofs.PartLaws.{four-parts}
 use borrow.Author.Needs.{needs}
 use Rattle.registers.proofs.start.started_bytes.Statement.{statement}
 use Rattle.registers.proofs.start.started_bytes.Tie as tie
@@ -20,29 +20,17 @@ use Rattle.registers.proofs.start.started_bytes.Tie as tie
 whole : (w o : List ℕ) → length o ≤ length w → putAt 0 w o ≡ w
 whole w o h = rw (drop-of-length-le o h, append-nil)
 
-next : (s : Shape) (c : List ℕ) (i x : ℕ) → i < length c → x ≡ fixedByte s i (byte c i)
-    → drop i (startedConfig s c) ≡ x ∷ drop (i + 1) (startedConfig s c)
-next s c i x h e =
-    rw add-one (drop-cons (startedConfig s c) i 0 (omega (arith, length-started s c))
-    ∙ ap (λ (y : ℕ). y ∷ drop (suc i) (startedConfig s c)) (byte-started s c i h ∙ sym e))
-
 abbrev Inv-loop : tie.InvT-loop
-Inv-loop c s config₀ i₀ config i = (i ≤ 256) × (length config ≡ 256) × (putAt i (drop i (startedConfig s c)) config ≡ startedConfig s c)
+Inv-loop c s config₀ i₀ config i = (i ≤ 256) × (length config ≡ 256) × (putAt i (drop i c) config ≡ c)
 
 abbrev μ-loop : tie.MeasureT-loop
 μ-loop c s config₀ i₀ config i = 256 - i
 
 loop-holds : tie.Need-loop-holds Inv-loop μ-loop
-loop-holds c =
-    let d = c .before in
-    let o = now (d .args .c) in
-    (omega arith, refl, whole (startedConfig (d .args .s) o) _ (omega (arith, d .pre .0, length-started (d .args .s) o)))
+loop-holds c = (omega arith, refl, whole (now (c .before .args .c)) _ (omega (arith, c .before .pre .0)))
 
-shared-slice-read-fixed-byte : tie.Need-shared-slice-read-fixed-byte Inv-loop μ-loop
-shared-slice-read-fixed-byte c = search needs
-
-fixed-byte-requires : tie.Need-fixed-byte-requires Inv-loop μ-loop
-fixed-byte-requires c κs = search needs
+shared-slice-read-config : tie.Need-shared-slice-read-config Inv-loop μ-loop
+shared-slice-read-config c = search needs
 
 array-write-config : tie.Need-array-write-config Inv-loop μ-loop
 array-write-config c = search needs
@@ -55,22 +43,59 @@ loop-less c = search needs
 
 loop-again : tie.Need-loop-again Inv-loop μ-loop
 loop-again c =
-    let v = c .before .before .before .loop in
-    let a = c .before .before .before .before .before .args in
-    let o = now (a .c) in (
-      omega arith,
-      simp length-set (v .inv .1),
-      put-next (v .i) (c .fixed-byte .result) _ _ (v .config) _ (omega arith)
-          (next (a .s) o (v .i) (c .fixed-byte .result) (omega arith) (c .fixed-byte .ensures)) (v .inv .2),
-    )
+    let v = c .before .before .loop in
+    let o = now (c .before .before .before .before .args .c) in
+    let h : v .i < length o = omega (arith, c .before .before .before .before .pre .0) in
+    let e : drop (v .i) o ≡ byte o (v .i) ∷ drop (v .i + 1) o = rw add-one (drop-cons o (v .i) 0 h) in
+    (omega arith, simp length-set (v .inv .1), put-next (v .i) (byte o (v .i)) _ _ (v .config) _ (omega arith) e (v .inv .2))
+
+form-requires : tie.Need-form-requires Inv-loop μ-loop
+form-requires c κs = search needs
+
+slice-aggregate-fix-part : tie.Need-slice-aggregate-fix-part Inv-loop μ-loop
+slice-aggregate-fix-part c = search needs
+
+fix-part-requires : tie.Need-fix-part-requires Inv-loop μ-loop
+fix-part-requires c κs = (c .before .before .before .loop .inv .1, omega arith, c .before .before .before .before .before .pre .1)
+
+slice-aggregate-fix-part-2 : tie.Need-slice-aggregate-fix-part-2 Inv-loop μ-loop
+slice-aggregate-fix-part-2 c = search needs
+
+fix-part-requires-2 : tie.Need-fix-part-requires-2 Inv-loop μ-loop
+fix-part-requires-2 c κs = (search needs, omega arith, c .before .before .before .before .before .before .before .before .pre .1)
+
+slice-aggregate-fix-part-3 : tie.Need-slice-aggregate-fix-part-3 Inv-loop μ-loop
+slice-aggregate-fix-part-3 c = search needs
+
+part-end-requires : tie.Need-part-end-requires Inv-loop μ-loop
+part-end-requires c κs = search needs
+
+fix-part-requires-3 : tie.Need-fix-part-requires-3 Inv-loop μ-loop
+fix-part-requires-3 c κs = (search needs, omega (arith, c .part-end .ensures), c .before .before .before .before .before .before .before .before .before .before .before .before .pre .1)
+
+slice-aggregate-fix-part-4 : tie.Need-slice-aggregate-fix-part-4 Inv-loop μ-loop
+slice-aggregate-fix-part-4 c = search needs
+
+part-end-requires-2 : tie.Need-part-end-requires-2 Inv-loop μ-loop
+part-end-requires-2 c κs = search needs
+
+fix-part-requires-4 : tie.Need-fix-part-requires-4 Inv-loop μ-loop
+fix-part-requires-4 c κs = (search needs, omega (arith, c .part-end2 .ensures), c .before .before .before .before .before .before .before .before .before .before .before .before .before .before .before .before .pre .1)
 
 returns : tie.Need-returns Inv-loop μ-loop
 returns c =
-    let v = c .before .loop in
-    let d = c .before .before .before in
-    let w = startedConfig (d .args .s) (now (d .args .c)) in
-    let h : length w ≤ v .i = omega (arith, d .pre .0, length-started (d .args .s) (now (d .args .c))) in
-    put-end (v .i) _ (v .config) _ (drop-of-length-le w h) (v .inv .2)
+    let d = c .before .before .before .before .before .before .before .before .before .before .before .before .before .before .before .before .before .before in
+    let v = c .before .before .before .before .before .before .before .before .before .before .before .before .before .before .before .before .loop in
+    let s = d .args .s in
+    let o = now (d .args .c) in
+    let h : length o ≤ v .i = omega (arith, d .pre .0, c .before .before .before .before .before .before .before .before .before .before .before .before .before .before .before .loop-test .left) in
+    let copied : v .config ≡ o = put-end (v .i) _ (v .config) _ (drop-of-length-le o h) (v .inv .2) in
+    let size = ap (λ (f : Form). min (s .msi .at + f .size) 256) (c .before .before .before .before .before .before .before .before .before .before .before .before .before .before .form .ensures) in
+    four-parts s (v .config) _ _ (c .before .before .before .before .before .before .part-end .ensures ∙ size) (c .before .before .part-end2 .ensures) (v .inv .1) _ _ _ _
+    (c .before .before .before .before .before .before .before .before .before .before .before .before .fix-part .ensures)
+    (c .before .before .before .before .before .before .before .before .before .fix-part2 .ensures)
+    (c .before .before .before .before .before .fix-part3 .ensures) (c .before .fix-part4 .ensures) (search needs)
+    ∙ ap (startedConfig s) copied
 
 pub started-bytes-spec : {M : Type 1} → statement M
 started-bytes-spec =
@@ -79,10 +104,20 @@ started-bytes-spec =
     Inv-loop
     μ-loop
     loop-holds
-    shared-slice-read-fixed-byte
-    fixed-byte-requires
+    shared-slice-read-config
     array-write-config
     add-i
     loop-less
     loop-again
+    form-requires
+    slice-aggregate-fix-part
+    fix-part-requires
+    slice-aggregate-fix-part-2
+    fix-part-requires-2
+    slice-aggregate-fix-part-3
+    part-end-requires
+    fix-part-requires-3
+    slice-aggregate-fix-part-4
+    part-end-requires-2
+    fix-part-requires-4
     returns)

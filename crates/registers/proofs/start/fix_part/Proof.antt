@@ -1,0 +1,74 @@
+-- The bytes before place i are as a start gives them. Assumes nothing.
+use mathlib.Core.Path.{_≡_, _∙_}
+use Prim.Native.Nat.{ℕ, _-_, _≤_, max}
+use native.Mathlib.Omega.{arith}
+use lib.ListN.{length, length-set}
+use denote.Ref.{now}
+use Rattle.words.specs.Bytes.{byte}
+use Rattle.registers.specs.Parts.{partFixed}
+use Rattle.registers.proofs.PartLaws.{part-none, part-more, part-all}
+use borrow.Author.Needs.{needs}
+use Rattle.registers.proofs.start.fix_part.Statement.{statement}
+use Rattle.registers.proofs.start.fix_part.Tie as tie
+
+abbrev Inv-loop : tie.InvT-loop
+Inv-loop config₀ s lo hi i₀ config i =
+    (lo ≤ i) × (i ≤ max lo hi) × (length config ≡ 256) × ((k : ℕ) → byte config k ≡ partFixed s lo i config₀ k)
+
+abbrev μ-loop : tie.MeasureT-loop
+μ-loop config₀ s lo hi i₀ config i = hi - i
+
+loop-holds : tie.Need-loop-holds Inv-loop μ-loop
+loop-holds c =
+    let a = c .before .args in
+    (omega arith, omega arith, c .before .pre .0, part-none (a .s) (a .lo) (now (a .config)))
+
+slice-read-fixed-byte : tie.Need-slice-read-fixed-byte Inv-loop μ-loop
+slice-read-fixed-byte c = search needs
+
+fixed-byte-requires : tie.Need-fixed-byte-requires Inv-loop μ-loop
+fixed-byte-requires c κs = search needs
+
+slice-write-config : tie.Need-slice-write-config Inv-loop μ-loop
+slice-write-config c = search needs
+
+add-i : tie.Need-add-i Inv-loop μ-loop
+add-i c = search needs
+
+loop-less : tie.Need-loop-less Inv-loop μ-loop
+loop-less c = search needs
+
+loop-again : tie.Need-loop-again Inv-loop μ-loop
+loop-again c =
+    let a = c .before .before .before .before .before .args in
+    let v = c .before .before .before .loop in (
+      omega arith,
+      omega arith,
+      simp length-set (v .inv .2),
+      part-more (a .s) (a .lo) (now (a .config)) (v .config) (v .i) (c .fixed-byte .result) (omega arith) (omega arith) (v .inv .3) (c .fixed-byte .ensures),
+    )
+
+same-length : tie.Need-same-length Inv-loop μ-loop
+same-length c = search needs
+
+returns : tie.Need-returns Inv-loop μ-loop
+returns c =
+    let a = c .before .before .before .args in
+    let v = c .before .loop in
+    λ k. v .inv .3 k ∙ part-all (a .s) (a .lo) (now (a .config)) (a .hi) (v .i) (omega arith) (omega arith) k
+
+pub fix-part-spec : {M : Type 1} → statement M
+fix-part-spec =
+    tie.close
+    (tie.spec
+    Inv-loop
+    μ-loop
+    loop-holds
+    slice-read-fixed-byte
+    fixed-byte-requires
+    slice-write-config
+    add-i
+    loop-less
+    loop-again
+    same-length
+    returns)
