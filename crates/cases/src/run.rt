@@ -1,5 +1,8 @@
 // One case as it runs: what each call gives is printed, and compared with what document 01 says.
+ghost use mathlib.Core.Path.{_≡_};
+ghost use mathlib.Core.Bool.{true};
 ghost use Rattle.io.specs.Counts.{Counts};
+ghost use Rattle.cases.specs.Kinds.{kindOf, detailOf, Matches};
 use crate::packet::print_packets;
 use crate::print::bytes;
 use crate::print::decimal;
@@ -21,7 +24,9 @@ pub struct Run {
 }
 
 // A number for each kind of answer.
-fn kind(a: Answer) -> u8 {
+fn kind(a: Answer) -> u8
+    ensures { λ r. ⌜ r ≡ kindOf a ⌝ }
+{
     match a {
         Answer::Refused(_) => 0,
         Answer::Done => 1,
@@ -34,15 +39,23 @@ fn kind(a: Answer) -> u8 {
 }
 
 // The number of a refusal, the value of a read.
-fn detail(a: Answer) -> u64 {
+fn detail(a: Answer) -> u64
+    ensures { λ r. ⌜ r ≡ detailOf a ⌝ }
+{
     match a {
         Answer::Refused(n) => n as u64,
         Answer::Value(v) => v,
-        _ => 0,
+        Answer::Done => 0,
+        Answer::Sent => 0,
+        Answer::Held => 0,
+        Answer::Merged => 0,
+        Answer::Lost => 0,
     }
 }
 
-fn same_answer(a: Answer, b: Answer) -> bool {
+fn same_answer(a: Answer, b: Answer) -> bool
+    ensures { λ r. ⌜ (r ≡ true → a ≡ b) × (a ≡ b → r ≡ true) ⌝ }
+{
     if kind(a) != kind(b) {
         return false;
     }
@@ -95,7 +108,9 @@ fn keeps_rest(out: &[u8], count: usize) -> bool {
 }
 
 // Whether the outcome is this answer, with just these bytes at the start of the output.
-fn matches(o: Outcome, out: &[u8], answer: Answer, expected: &[u8]) -> bool {
+fn matches(o: Outcome, out: &[u8], answer: Answer, expected: &[u8]) -> bool
+    ensures { λ r. ⌜ (r ≡ true → Matches o (now (out .entry)) answer (now (expected .entry))) ⌝ }
+{
     let given = o.answer;
     if !same_answer(given, answer) {
         return false;
