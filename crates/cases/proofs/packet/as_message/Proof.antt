@@ -1,0 +1,41 @@
+-- The bytes are those that the writer of messages makes of the fields. Assumes nothing.
+use mathlib.Core.Path.{_∙_}
+use Rattle.model.proofs.PacketLaws.{size-le}
+use Rattle.io.proofs.Counting.{counts}
+use Rattle.cases.proofs.Front.{wrote-within, wrote-front}
+use borrow.Author.Needs.{needs}
+use Rattle.cases.proofs.packet.as_message.Statement.{statement}
+use Rattle.cases.proofs.packet.as_message.Tie as tie
+
+slice-aggregate-put-message : tie.Need-slice-aggregate-put-message
+slice-aggregate-put-message c = search needs
+
+put-message-requires : tie.Need-put-message-requires
+put-message-requires c κs = size-le _
+
+array-share-prefix-again : tie.Need-array-share-prefix-again
+array-share-prefix-again c = wrote-within (c .before .put-message .ensures)
+
+slice-aggregate-same : tie.Need-slice-aggregate-same
+slice-aggregate-same c = counts _ _ (wrote-within (c .before .before .put-message .ensures)) .1
+
+same-requires : tie.Need-same-requires
+same-requires c κs = search needs
+
+returns : tie.Need-returns
+returns c = (c .before .same .ensures .0) (c .if1 .taken) ∙ wrote-front (c .before .before .before .before .put-message .ensures)
+
+returns-2 : tie.Need-returns-2
+returns-2 c = search needs
+
+pub as-message-spec : {M : Type 1} → statement M
+as-message-spec =
+    tie.close
+    (tie.spec
+    slice-aggregate-put-message
+    put-message-requires
+    array-share-prefix-again
+    slice-aggregate-same
+    same-requires
+    returns
+    returns-2)

@@ -1,0 +1,207 @@
+// Packets taken apart, to be read by a person.
+ghost use Prim.Native.Nat.{_+_, _≤_};
+ghost use mathlib.Core.Path.{_≡_};
+ghost use lib.ListN.{length};
+ghost use Rattle.io.specs.Counts.{Counts};
+ghost use Rattle.cases.specs.Shows.{Shows};
+use crate::print::bytes;
+use crate::print::decimal;
+use crate::print::hex16;
+use crate::print::hex32;
+use crate::print::text;
+
+// A memory write of one word.
+pub struct Message {
+    pub requester: u16,
+    pub upper: u32,
+    pub address: u32,
+    pub value: u32,
+}
+
+// Assert_INTx or Deassert_INTx.
+pub struct Level {
+    pub requester: u16,
+    pub pin: u8,
+    pub active: bool,
+}
+
+pub enum Packet {
+    Message(Message),
+    Wire(Level),
+    Other,
+}
+
+fn wide(x: u8) -> u16
+    ensures { λ r. ⌜ r ≤ 255 ⌝ }
+{
+    x as u16
+}
+
+// The numbers of two and four bytes from place `at` on, the highest byte first.
+fn high16(s: &[u8], at: usize) -> u16
+    requires { ⌜ at + 2 ≤ length (now s) ⌝ }
+{
+    wide(s[at]) * 256 + wide(s[at + 1])
+}
+
+fn high32(s: &[u8], at: usize) -> u32
+    requires { ⌜ at + 4 ≤ length (now s) ⌝ }
+{
+    (high16(s, at) as u32) * 65536 + (high16(s, at + 2) as u32)
+}
+
+// The message with these fields, if the bytes are its bytes.
+fn as_message(s: &[u8], m: Message) -> Packet
+    ensures { λ r. ⌜ Shows r (now (s .entry)) ⌝ }
+{
+    let mut again = [0u8; 20];
+    let n = tlp::put_message(&mut again, m.requester, m.upper, m.address, m.value);
+    if check::same(s, &again[..n]) {
+        return Packet::Message(m);
+    }
+    Packet::Other
+}
+
+// The wire's packet with this pin and level, if the bytes are its bytes.
+fn as_wire(s: &[u8], l: Level) -> Packet
+    requires { ⌜ l .pin ≤ 4 ⌝ }
+    ensures { λ r. ⌜ Shows r (now (s .entry)) ⌝ }
+{
+    let mut again = [0u8; 16];
+    let n = tlp::put_wire(&mut again, l.requester, l.pin, l.active);
+    if check::same(s, &again[..n]) {
+        return Packet::Wire(l);
+    }
+    Packet::Other
+}
+
+// The fields of a wire's packet: the code is 1Fh + pin, or 23h + pin.
+fn decode_wire(s: &[u8]) -> Packet
+    requires { ⌜ 16 ≤ length (now s) ⌝ }
+    ensures { λ r. ⌜ Shows r (now (s .entry)) ⌝ }
+{
+    let requester = high16(s, 4);
+    let code = s[7];
+    if code < 0x20 {
+        return Packet::Other;
+    }
+    if 0x27 < code {
+        return Packet::Other;
+    }
+    if code < 0x24 {
+        let level = Level {
+            requester,
+            pin: code - 0x1f,
+            active: true,
+        };
+        return as_wire(s, level);
+    }
+    let level = Level {
+        requester,
+        pin: code - 0x23,
+        active: false,
+    };
+    as_wire(s, level)
+}
+
+// The packet that the bytes are. Its fields are read off, then compared with the packet that they make.
+pub fn decode(s: &[u8]) -> Packet
+    ensures { λ r. ⌜ Shows r (now (s .entry)) ⌝ }
+{
+    if s.len() < 16 {
+        return Packet::Other;
+    }
+    if s[0] == 0x34 {
+        return decode_wire(s);
+    }
+    let requester = high16(s, 4);
+    if s.len() < 20 {
+        let address = high32(s, 8);
+        let value = words::get::word32(s, 12);
+        return as_message(
+            s,
+            Message {
+                requester,
+                upper: 0,
+                address,
+                value,
+            },
+        );
+    }
+    let upper = high32(s, 8);
+    let address = high32(s, 12);
+    let value = words::get::word32(s, 16);
+    as_message(
+        s,
+        Message {
+            requester,
+            upper,
+            address,
+            value,
+        },
+    )
+}
+
+fn print_level(l: Level) {
+    text(b"pin ");
+    decimal(l.pin as u64);
+    if l.active {
+        text(b" asserted, requester ");
+    } else {
+        text(b" deasserted, requester ");
+    }
+    hex16(l.requester);
+    text(b"h\n");
+}
+
+fn print_message(m: Message) {
+    text(b"message to ");
+    hex32(m.upper);
+    hex32(m.address);
+    text(b"h, data ");
+    hex32(m.value);
+    text(b"h, requester ");
+    hex16(m.requester);
+    text(b"h\n");
+}
+
+// A packet: a line with its bytes, and one with what they mean.
+fn print_packet(s: &[u8]) {
+    text(b"    ");
+    bytes(s);
+    text(b"\n    ");
+    let packet = decode(s);
+    match packet {
+        Packet::Message(m) => print_message(m),
+        Packet::Wire(l) => print_level(l),
+        Packet::Other => text(b"no packet of document 01\n"),
+    }
+}
+
+// How many bytes the first packet has: 20 where its first byte is 60h, else 16, and at most all.
+fn packet_length(s: &[u8]) -> usize
+    requires { ⌜ 1 ≤ length (now s) ⌝ }
+    ensures { λ r. ⌜ (1 ≤ r) × Counts r (now (s .entry)) ⌝ }
+{
+    if s[0] == 0x60 {
+        if 20 <= s.len() {
+            return 20;
+        }
+        return s.len();
+    }
+    if 16 <= s.len() {
+        return 16;
+    }
+    s.len()
+}
+
+// Packets that stand one after another.
+pub fn print_packets(s: &[u8]) {
+    let mut at = 0;
+    while at < s.len() {
+        let rest = &s[at..];
+        let n = packet_length(rest);
+        print_packet(&rest[..n]);
+        at += n;
+    }
+}
