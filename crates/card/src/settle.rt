@@ -26,7 +26,7 @@ pub fn wiring(config: &[u8; 256], line: bool, wire: bool, s: Shape) -> Wiring
 {
     let mode = vectors::mode::mode(config, s);
     let disabled = vectors::mode::command_bit(config, 10);
-    let pin = vectors::wire::pin_number(config);
+    let pin = vectors::pin::pin_number(config);
     Wiring {
         line,
         wire,
@@ -66,7 +66,7 @@ pub fn settle(
     if out.len() < first + rest {
         return refused(card, 6);
     }
-    let pin = vectors::wire::pin_number(&f.config);
+    let pin = vectors::pin::pin_number(&f.config);
     let at = wire::put_owed(out, owed, f.requester, pin);
     let sent = endpoint::sweep::send_owed(f, s, table, pending, &mut out[at..]);
     let function = crate::changed::with_waiting(f, sent.waiting);

@@ -3,7 +3,7 @@ pub mod bits; // one bit of a byte, and of a register
 pub mod mode; // control bits and the mechanism in force
 pub mod granted; // the vectors that MSI is granted
 pub mod event; // from events to vectors
-pub mod wire; // the wire as it should be
+pub mod pin; // the pin number
 pub mod msi; // the open vectors of MSI
 pub mod msix; // the open vectors of MSI-X
 pub mod open; // a vector of any mechanism

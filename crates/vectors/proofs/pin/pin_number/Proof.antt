@@ -2,8 +2,8 @@
 use mathlib.Core.Path.{refl}
 use borrow.Author.Needs.{needs}
 use Rattle.model.specs.Release.{pinNumber}
-use Rattle.vectors.proofs.wire.pin_number.Statement.{statement}
-use Rattle.vectors.proofs.wire.pin_number.Tie as tie
+use Rattle.vectors.proofs.pin.pin_number.Statement.{statement}
+use Rattle.vectors.proofs.pin.pin_number.Tie as tie
 
 element-copy-out-result : tie.Need-element-copy-out-result
 element-copy-out-result c = search needs
