@@ -22,11 +22,12 @@ pub fn config_written(c: [u8; 256], s: Shape, at: usize, n: usize, value: u32) -
     requires { ⌜ (at + n ≤ 256) × (s .msi .capable ≤ 5) ⌝ }
     ensures { λ r. ⌜ r ≡ written (writable s) c at (bytesOf n value) ⌝ }
 {
+    let f = form(s);
     let mut config = c;
     let mut left = value;
     for i in 0..n {
         let k = at + i;
-        let mask = writable(s, k);
+        let mask = writable(s, f, k);
         config[k] = words::bits::merge(mask, config[k], (left % 256) as u8);
         left = left / 256;
     }

@@ -5,7 +5,6 @@ ghost use Rattle.words.specs.Lists.{within};
 ghost use Rattle.words.specs.Bytes.{byte, bytesOf};
 ghost use Rattle.model.specs.Shape.{formOf};
 ghost use Rattle.model.specs.Registers.{headerWritable, msiWritable, msiZero, maskBytes, writable, storedZero};
-use layout::form::form;
 use model::Form;
 use model::Shape;
 
@@ -74,15 +73,14 @@ fn msi_writable(s: Shape, f: Form, k: usize) -> u8
     0
 }
 
-// The writable bits of byte i: header, MSI, MSI-X control bits 14 and 15.
-pub fn writable(s: Shape, i: usize) -> u8
-    requires { ⌜ s .msi .capable ≤ 5 ⌝ }
+// The writable bits of byte i, where MSI's form is f: header, MSI, MSI-X control bits 14 and 15.
+pub fn writable(s: Shape, f: Form, i: usize) -> u8
+    requires { ⌜ (s .msi .capable ≤ 5) × (f ≡ formOf s) ⌝ }
     ensures { λ r. ⌜ r ≡ writable s i ⌝ }
 {
     if i < 64 {
         return header_writable(i);
     }
-    let f = form(s);
     if within(s.msi.at, f.size, i) {
         return msi_writable(s, f, i - s.msi.at);
     }
@@ -107,14 +105,13 @@ fn msi_zero(s: Shape, f: Form, k: usize) -> u8
 }
 
 // The bits of byte i that are stored as 0: Status bit 3, and MSI's.
-pub fn stored_zero(s: Shape, i: usize) -> u8
-    requires { ⌜ s .msi .capable ≤ 5 ⌝ }
+pub fn stored_zero(s: Shape, f: Form, i: usize) -> u8
+    requires { ⌜ (s .msi .capable ≤ 5) × (f ≡ formOf s) ⌝ }
     ensures { λ r. ⌜ r ≡ storedZero s i ⌝ }
 {
     if i < 64 {
         return if i == 6 { 0x08 } else { 0 };
     }
-    let f = form(s);
     if within(s.msi.at, f.size, i) {
         return msi_zero(s, f, i - s.msi.at);
     }

@@ -3,19 +3,21 @@ ghost use mathlib.Core.Path.{_≡_};
 ghost use Prim.Native.Nat.{ℕ, _+_, _≤_, min};
 ghost use lib.ListN.{length};
 ghost use Rattle.words.specs.Bytes.{byte};
+ghost use Rattle.model.specs.Shape.{formOf};
 ghost use Rattle.model.specs.Registers.{fixedByte, startedConfig};
 ghost use Rattle.registers.specs.Parts.{partFixed};
 use crate::masks::stored_zero;
 use crate::masks::writable;
 use layout::form::form;
+use model::Form;
 use model::Shape;
 
-// Byte i with its writable bits 0, and those that are stored as 0.
-fn fixed_byte(s: Shape, i: usize, b: u8) -> u8
-    requires { ⌜ s .msi .capable ≤ 5 ⌝ }
+// Byte i with its writable bits 0, and those that are stored as 0, where MSI's form is f.
+fn fixed_byte(s: Shape, f: Form, i: usize, b: u8) -> u8
+    requires { ⌜ (s .msi .capable ≤ 5) × (f ≡ formOf s) ⌝ }
     ensures { λ r. ⌜ r ≡ fixedByte s i b ⌝ }
 {
-    !writable(s, i) & (!stored_zero(s, i) & b)
+    !writable(s, f, i) & (!stored_zero(s, f, i) & b)
 }
 
 // Where n bytes from `at` on end, at most at 256.
@@ -29,12 +31,12 @@ fn part_end(at: usize, n: usize) -> usize
 }
 
 // The same for the bytes from place lo to hi - 1.
-fn fix_part(config: &mut [u8], s: Shape, lo: usize, hi: usize)
-    requires { ⌜ (length (now config) ≡ 256) × (hi ≤ 256) × (s .msi .capable ≤ 5) ⌝ }
+fn fix_part(config: &mut [u8], s: Shape, f: Form, lo: usize, hi: usize)
+    requires { ⌜ (length (now config) ≡ 256) × (hi ≤ 256) × (s .msi .capable ≤ 5) × (f ≡ formOf s) ⌝ }
     ensures { λ r. ⌜ ((k : ℕ) → byte (now (config .exit)) k ≡ partFixed s lo hi (now (config .entry)) k) ⌝ }
 {
     for i in lo..hi {
-        config[i] = fixed_byte(s, i, config[i]);
+        config[i] = fixed_byte(s, f, i, config[i]);
     }
 }
 
@@ -48,10 +50,10 @@ fn started_bytes(c: &[u8], s: Shape) -> [u8; 256]
         config[i] = c[i];
     }
     let f = form(s);
-    fix_part(&mut config, s, 4, 8);
-    fix_part(&mut config, s, 0x3c, 0x3d);
-    fix_part(&mut config, s, s.msi.at, part_end(s.msi.at, f.size));
-    fix_part(&mut config, s, s.msix.at, part_end(s.msix.at, 4));
+    fix_part(&mut config, s, f, 4, 8);
+    fix_part(&mut config, s, f, 0x3c, 0x3d);
+    fix_part(&mut config, s, f, s.msi.at, part_end(s.msi.at, f.size));
+    fix_part(&mut config, s, f, s.msix.at, part_end(s.msix.at, 4));
     config
 }
 

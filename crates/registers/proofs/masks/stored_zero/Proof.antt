@@ -18,15 +18,12 @@ returns-2 c =
     let a = c .before .before .args in
     sym (header-byte (a .s) (a .i) (c .before .if1 .taken) .1 ∙ rw (ne-eqb _ _ (c .if2 .left)))
 
-form-requires : tie.Need-form-requires
-form-requires c κs = search needs
-
 within-requires : tie.Need-within-requires
 within-requires c κs = search needs
 
 sub-msi-zero : tie.Need-sub-msi-zero
 sub-msi-zero c =
-    let a = c .before .before .before .before .before .args in
+    let a = c .before .before .before .before .args in
     within-true (a .s .msi .at) _ (a .i) (sym (c .before .before .within .ensures) ∙ c .before .if3 .taken) .0
 
 msi-zero-requires : tie.Need-msi-zero-requires
@@ -34,24 +31,17 @@ msi-zero-requires c κs = search needs
 
 returns-3 : tie.Need-returns-3
 returns-3 c =
-    let a = c .before .before .before .before .before .before .args in
-    c .msi-zero .ensures
-    ∙ sym (msi-byte (a .s) (a .i) (c .before .before .before .before .form .result .size) (ap (λ (f : Form). f .size) (c .before .before .before .before .form .ensures)) (c .before .before .before .before .before .if1 .left) (sym (c .before .before .before .within .ensures) ∙ c .before .before .if3 .taken) .1)
+    let a = c .before .before .before .before .before .args in
+    let size = ap (λ (f : Form). f .size) (c .before .before .before .before .before .pre .1) in
+    c .msi-zero .ensures ∙ sym (msi-byte (a .s) (a .i) (a .f .size) size (c .before .before .before .before .if1 .left) (sym (c .before .before .before .within .ensures) ∙ c .before .before .if3 .taken) .1)
 
 returns-4 : tie.Need-returns-4
 returns-4 c =
-    let a = c .before .before .before .before .args in
-    sym (other-byte (a .s) (a .i) (c .before .before .form .result .size) (ap (λ (f : Form). f .size) (c .before .before .form .ensures)) (c .before .before .before .if1 .left) (sym (c .before .within .ensures) ∙ c .if3 .left) .1)
+    let a = c .before .before .before .args in
+    let size = ap (λ (f : Form). f .size) (c .before .before .before .pre .1) in
+    sym (other-byte (a .s) (a .i) (a .f .size) size (c .before .before .if1 .left) (sym (c .before .within .ensures) ∙ c .if3 .left) .1)
 
 pub stored-zero-spec : {M : Type 1} → statement M
 stored-zero-spec =
     tie.close
-    (tie.spec
-    returns
-    returns-2
-    form-requires
-    within-requires
-    sub-msi-zero
-    msi-zero-requires
-    returns-3
-    returns-4)
+    (tie.spec returns returns-2 within-requires sub-msi-zero msi-zero-requires returns-3 returns-4)

@@ -12,11 +12,11 @@ use Rattle.registers.proofs.start.fix_part.Statement.{statement}
 use Rattle.registers.proofs.start.fix_part.Tie as tie
 
 abbrev Inv-loop : tie.InvT-loop
-Inv-loop config₀ s lo hi i₀ config i =
+Inv-loop config₀ s f lo hi i₀ config i =
     (lo ≤ i) × (i ≤ max lo hi) × (length config ≡ 256) × ((k : ℕ) → byte config k ≡ partFixed s lo i config₀ k)
 
 abbrev μ-loop : tie.MeasureT-loop
-μ-loop config₀ s lo hi i₀ config i = hi - i
+μ-loop config₀ s f lo hi i₀ config i = hi - i
 
 loop-holds : tie.Need-loop-holds Inv-loop μ-loop
 loop-holds c =

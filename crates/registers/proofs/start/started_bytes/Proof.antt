@@ -56,13 +56,13 @@ slice-aggregate-fix-part : tie.Need-slice-aggregate-fix-part Inv-loop μ-loop
 slice-aggregate-fix-part c = search needs
 
 fix-part-requires : tie.Need-fix-part-requires Inv-loop μ-loop
-fix-part-requires c κs = (c .before .before .before .loop .inv .1, omega arith, c .before .before .before .before .before .pre .1)
+fix-part-requires c κs = (c .before .before .before .loop .inv .1, omega arith, c .before .before .before .before .before .pre .1, c .before .form .ensures)
 
 slice-aggregate-fix-part-2 : tie.Need-slice-aggregate-fix-part-2 Inv-loop μ-loop
 slice-aggregate-fix-part-2 c = search needs
 
 fix-part-requires-2 : tie.Need-fix-part-requires-2 Inv-loop μ-loop
-fix-part-requires-2 c κs = (search needs, omega arith, c .before .before .before .before .before .before .before .before .pre .1)
+fix-part-requires-2 c κs = (search needs, omega arith, c .before .before .before .before .before .before .before .before .pre .1, c .before .before .before .before .form .ensures)
 
 slice-aggregate-fix-part-3 : tie.Need-slice-aggregate-fix-part-3 Inv-loop μ-loop
 slice-aggregate-fix-part-3 c = search needs
@@ -71,7 +71,7 @@ part-end-requires : tie.Need-part-end-requires Inv-loop μ-loop
 part-end-requires c κs = search needs
 
 fix-part-requires-3 : tie.Need-fix-part-requires-3 Inv-loop μ-loop
-fix-part-requires-3 c κs = (search needs, omega (arith, c .part-end .ensures), c .before .before .before .before .before .before .before .before .before .before .before .before .pre .1)
+fix-part-requires-3 c κs = (search needs, omega (arith, c .part-end .ensures), c .before .before .before .before .before .before .before .before .before .before .before .before .pre .1, c .before .before .before .before .before .before .before .before .form .ensures)
 
 slice-aggregate-fix-part-4 : tie.Need-slice-aggregate-fix-part-4 Inv-loop μ-loop
 slice-aggregate-fix-part-4 c = search needs
@@ -80,7 +80,7 @@ part-end-requires-2 : tie.Need-part-end-requires-2 Inv-loop μ-loop
 part-end-requires-2 c κs = search needs
 
 fix-part-requires-4 : tie.Need-fix-part-requires-4 Inv-loop μ-loop
-fix-part-requires-4 c κs = (search needs, omega (arith, c .part-end2 .ensures), c .before .before .before .before .before .before .before .before .before .before .before .before .before .before .before .before .pre .1)
+fix-part-requires-4 c κs = (search needs, omega (arith, c .part-end2 .ensures), c .before .before .before .before .before .before .before .before .before .before .before .before .before .before .before .before .pre .1, c .before .before .before .before .before .before .before .before .before .before .before .before .form .ensures)
 
 returns : tie.Need-returns Inv-loop μ-loop
 returns c =
