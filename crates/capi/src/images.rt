@@ -23,7 +23,7 @@ pub extern "C" fn musgarento_save(
         return 60;
     }
     let held = card_of(card);
-    let outcome = lifecycle::save::save(held, table, pending, out);
+    let outcome = snapshot::save::save(held, table, pending, out);
     *count = outcome.count;
     let answer = outcome.answer;
     let numbers = numbers_of(answer);
@@ -44,7 +44,7 @@ pub extern "C" fn musgarento_restore(
         return 60;
     }
     let held = card_of(card);
-    let outcome = lifecycle::restore::restore(held, image, table, pending);
+    let outcome = snapshot::restore::restore(held, image, table, pending);
     let numbers = hand_back(card, outcome);
     numbers.refusal
 }

@@ -23,7 +23,7 @@ pub extern "C" fn musgarento_config_read(
         return 60;
     }
     let held = card_of(card);
-    let outcome = access::config_read::config_read(held, table, pending, offset, width);
+    let outcome = config_access::config_read::config_read(held, table, pending, offset, width);
     let answer = outcome.answer;
     let numbers = numbers_of(answer);
     *value = numbers.value as u32;
@@ -47,7 +47,7 @@ pub extern "C" fn musgarento_bar_read(
         return 60;
     }
     let held = card_of(card);
-    let outcome = access::bar_read::bar_read(held, table, pending, bar, offset, width);
+    let outcome = bar_access::bar_read::bar_read(held, table, pending, bar, offset, width);
     let answer = outcome.answer;
     let numbers = numbers_of(answer);
     *value = numbers.value;

@@ -24,7 +24,7 @@ pub extern "C" fn musgarento_config_write(
         return 60;
     }
     let held = card_of(card);
-    let outcome = access::config_write::config_write(
+    let outcome = config_access::config_write::config_write(
         held,
         table,
         pending,
@@ -57,7 +57,7 @@ pub extern "C" fn musgarento_bar_write(
         return 60;
     }
     let held = card_of(card);
-    let outcome = access::bar_write::bar_write(
+    let outcome = bar_access::bar_write::bar_write(
         held,
         table,
         pending,

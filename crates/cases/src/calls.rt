@@ -31,7 +31,7 @@ pub fn config_write(run: Run, offset: u16, width: u8, value: u32, packets: &[u8]
     let mut out = [0xee; 64];
     let t = table_length(run.vectors, &table);
     let p = pending_length(run.vectors, &pending);
-    let o = access::config_write::config_write(
+    let o = config_access::config_write::config_write(
         card,
         &table[..t],
         &mut pending[..p],
@@ -56,7 +56,7 @@ pub fn bar_write(run: Run, offset: u32, value: u64, packets: &[u8]) -> Run {
     let mut out = [0xee; 64];
     let t = table_length(run.vectors, &table);
     let p = pending_length(run.vectors, &pending);
-    let o = access::bar_write::bar_write(
+    let o = bar_access::bar_write::bar_write(
         card,
         &mut table[..t],
         &mut pending[..p],
@@ -117,7 +117,7 @@ pub fn read_status(run: Run, value: u64) -> Run {
     let pending = run.pending;
     let t = table_length(run.vectors, &table);
     let p = pending_length(run.vectors, &pending);
-    let o = access::config_read::config_read(card, &table[..t], &pending[..p], 6, 2);
+    let o = config_access::config_read::config_read(card, &table[..t], &pending[..p], 6, 2);
     judge_read(run, o, 2, value)
 }
 
@@ -129,7 +129,7 @@ pub fn read_pending(run: Run, value: u64) -> Run {
     let pending = run.pending;
     let t = table_length(run.vectors, &table);
     let p = pending_length(run.vectors, &pending);
-    let o = access::bar_read::bar_read(card, &table[..t], &pending[..p], 0, 0x1000, 8);
+    let o = bar_access::bar_read::bar_read(card, &table[..t], &pending[..p], 0, 0x1000, 8);
     judge_read(run, o, 8, value)
 }
 
@@ -143,7 +143,7 @@ pub fn save(run: Run, out: &mut [u8]) -> usize {
     let pending = run.pending;
     let t = table_length(run.vectors, &table);
     let p = pending_length(run.vectors, &pending);
-    let o = lifecycle::save::save(card, &table[..t], &pending[..p], out);
+    let o = snapshot::save::save(card, &table[..t], &pending[..p], out);
     let given = o.answer;
     print_answer(given, 8);
     o.count

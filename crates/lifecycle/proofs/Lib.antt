@@ -1,4 +1,2 @@
 pub mod ResetFor
-pub mod RestoreFor
-pub mod SaveFor
 pub mod StartFor

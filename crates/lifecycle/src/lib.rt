@@ -1,7 +1,4 @@
-// Start, reset, save and restore.
-pub mod held;
+// Start and reset.
 pub mod reset;
-pub mod restore;
-pub mod save;
 pub mod start;
 pub mod started;

@@ -1,0 +1,45 @@
+use Rattle.bar_access.proofs.BoundsFor.{bar-above, bar-width, bar-multiple, bar-table, bar-pending, bar-width-positive}
+use borrow.Author.Needs.{needs}
+use Rattle.bar_access.proofs.bounds.bad_bar.Statement.{statement}
+use Rattle.bar_access.proofs.bounds.bad_bar.Tie as tie
+
+returns : tie.Need-returns
+returns c = bar-above _ _ _ _ (c .if1 .taken)
+
+is-bar-width-requires : tie.Need-is-bar-width-requires
+is-bar-width-requires c κs = search needs
+
+returns-2 : tie.Need-returns-2
+returns-2 c = bar-width _ _ _ _ _ (c .before .before .if1 .left) (c .before .is-bar-width .ensures) (c .if2 .taken)
+
+rem-if3 : tie.Need-rem-if3
+rem-if3 c = bar-width-positive _ _ (c .before .is-bar-width .ensures) (c .if2 .left)
+
+returns-3 : tie.Need-returns-3
+returns-3 c = bar-multiple _ _ _ _ _ (c .before .before .before .if1 .left) (c .before .before .is-bar-width .ensures) (c .before .if2 .left) (c .if3 .taken)
+
+in-table-requires : tie.Need-in-table-requires
+in-table-requires c κs = search needs
+
+returns-4 : tie.Need-returns-4
+returns-4 c = bar-table _ _ _ _ _ (c .before .before .before .before .before .if1 .left) (c .before .before .before .before .is-bar-width .ensures) _ (c .before .before .before .if2 .left) (c .before .before .if3 .left) (c .before .in-table .ensures) (c .if4 .taken)
+
+in-pending-requires : tie.Need-in-pending-requires
+in-pending-requires c κs = search needs
+
+returns-5 : tie.Need-returns-5
+returns-5 c = bar-pending _ _ _ _ _ (c .before .before .before .before .before .before .if1 .left) (c .before .before .before .before .before .is-bar-width .ensures) _ _ (c .before .before .before .before .if2 .left) (c .before .before .before .if3 .left) (c .before .before .in-table .ensures) (c .before .if4 .left) (c .in-pending .ensures)
+
+pub bad-bar-spec : {M : Type 1} → statement M
+bad-bar-spec =
+    tie.close
+    (tie.spec
+    returns
+    is-bar-width-requires
+    returns-2
+    rem-if3
+    returns-3
+    in-table-requires
+    returns-4
+    in-pending-requires
+    returns-5)

@@ -1,0 +1,3 @@
+pub mod BoundsFor
+pub mod ConfigFor
+pub mod ReadFor

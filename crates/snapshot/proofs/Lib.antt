@@ -1,0 +1,2 @@
+pub mod RestoreFor
+pub mod SaveFor

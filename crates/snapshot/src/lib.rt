@@ -1,0 +1,4 @@
+// Saving and restoring a card.
+pub mod held;
+pub mod restore;
+pub mod save;
