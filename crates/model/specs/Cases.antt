@@ -1,61 +1,13 @@
--- Document 01, "Bench cases": the starred ones as one table, and cases for the errors that tempt. Assumes nothing.
+-- Document 01, "Bench cases", as tables of calls, and cases for the errors that tempt. Assumes nothing.
 use mathlib.Core.Bool.{Bool, true, false, _&&_}
 use mathlib.Core.List.{List, [], _∷_, _++_}
-use Prim.Native.Nat.{ℕ, zero, suc, _+_, _-_, _*_, _/_}
-use lib.Dec.{eqb}
-use lib.ListN.{length, drop, set, replicate}
-use Rattle.words.specs.Lists.{same}
+use Prim.Native.Nat.{ℕ, suc, _+_, _-_, _*_}
+use lib.ListN.{set, replicate}
+use Rattle.words.specs.Bytes.{bytesOf}
 use Rattle.model.specs.declared.Answer.{Answer}
-use Rattle.model.specs.declared.Answer.the-variants.{Done, Value, Sent, Held, Merged, Lost}
-use Rattle.model.specs.World.{World, zeroFunction, endpointOf}
-use Rattle.model.specs.Answers.{refusalOf, valueOf, eventCode}
-use Rattle.model.specs.Calls.{Call, Operation, Outcome, operate, step, outputOf}
-use Rattle.model.specs.Calls.{configRead, configWrite, barRead, barWrite, event, line, reset, save, start}
-
--- a call over an output, the bytes that it should send and its answer
-pub record Expect : Type 0 where
-  pub call : (out : List ℕ) → Call
-  pub bytes : List ℕ
-  pub answer : Answer
-
--- what a card is started with, its N, the room of each call's output, and the calls after the start in order
-pub record Case : Type 0 where
-  pub config : List ℕ
-  pub size : ℕ
-  pub events : ℕ
-  pub vectors : ℕ
-  pub room : ℕ
-  pub steps : List Expect
-
-unfoldable pub sameAnswer : Answer → Answer → Bool
-sameAnswer a b = eqb (refusalOf a) (refusalOf b) && eqb (valueOf a) (valueOf b) && eqb (eventCode a) (eventCode b)
-
--- the call answers so and sends just these bytes; those behind them keep their contents
-unfoldable pub right : Outcome → List ℕ → Expect → Bool
-right r out x =
-    sameAnswer (r .answer) (x .answer)
-    && eqb (r .count) (length (x .bytes))
-    && same (r .output) (x .bytes ++ drop (length (x .bytes)) out)
-
-unfoldable pub follows : World → List ℕ → List Expect → Bool
-follows w out [] = true
-follows w out (x ∷ l) =
-    let r : Outcome = step w (x .call out) in
-    right r (outputOf (x .call out)) x && follows (r .world) out l
-
--- lent buffers for n vectors with some contents
-unfoldable pub lent : ℕ → World
-lent n = record { endpoint = endpointOf zeroFunction (replicate (16 * n) 7) (replicate (8 * ((n + 63) / 64)) 7); wire = false }
-
--- requester 0100h
-unfoldable pub passes : Case → Bool
-passes k =
-    let r : Outcome = operate (lent (k .vectors)) (start (k .config) (k .size ∷ replicate 5 0) (k .events) 0x100) in
-    eqb (refusalOf (r .answer)) 0 && follows (r .world) (replicate (k .room) 0xee) (k .steps)
-
-unfoldable pub allPass : List Case → Bool
-allPass [] = true
-allPass (k ∷ l) = passes k && allPass l
+use Rattle.model.specs.declared.Answer.the-variants.{Refused, Done, Value, Sent, Held, Merged}
+use Rattle.model.specs.Calls.{configRead, configWrite, barRead, barWrite, event, line, reset, save}
+use Rattle.model.specs.Play.{Expect, Case, Played, fresh, played, playedAll, begun, allPass, imageTaken, sameImage}
 
 -- ---- configurations
 
@@ -64,67 +16,83 @@ unfoldable pub put : ℕ → List ℕ → List ℕ → List ℕ
 put i [] l = l
 put i (b ∷ bs) l = put (suc i) bs (set l i b)
 
-unfoldable pub blank : List ℕ
-blank = replicate 256 0
+-- no capability, and a pin
+unfoldable pub header : ℕ → List ℕ
+header pin = set (replicate 256 0) 0x3d pin
 
--- a card with pin 1 and these capabilities from 40h on
-unfoldable pub cardWith : List ℕ → List ℕ
-cardWith capability = put 0x40 capability (set (set (set blank 6 0x10) 0x34 0x40) 0x3d 1)
+-- pin 1, and a list whose first capability is at 40h
+unfoldable pub listed : List ℕ
+listed = set (set (header 1) 0x06 0x10) 0x34 0x40
 
 -- MSI, Capable 3: 32-bit, and 64-bit with masks
 unfoldable pub msiCard : List ℕ
-msiCard = cardWith (0x05 ∷ 0 ∷ 0x06 ∷ 0 ∷ [])
+msiCard = put 0x40 (bytesOf 4 0x00060005) listed
 
 unfoldable pub wideMsiCard : List ℕ
-wideMsiCard = cardWith (0x05 ∷ 0 ∷ 0x86 ∷ 1 ∷ [])
+wideMsiCard = put 0x40 (bytesOf 4 0x01860005) listed
 
--- MSI-X with n vectors, the table at the start of BAR 0 and the pending array at 1000h of it
-unfoldable pub msixCapability : (link n : ℕ) → List ℕ
-msixCapability link n = 0x11 ∷ link ∷ (n - 1) ∷ 0 ∷ 0 ∷ 0 ∷ 0 ∷ 0 ∷ 0 ∷ 0x10 ∷ 0 ∷ 0 ∷ []
+-- MSI-X with n vectors, the next capability, and the words of its table and its pending array: an offset, and a BAR in the low three bits
+unfoldable pub msixCard : (link n table pending : ℕ) → List ℕ
+msixCard link n table pending =
+    put 0x48 (bytesOf 4 pending) (put 0x44 (bytesOf 4 table) (put 0x40 (bytesOf 4 ((n - 1) * 65536 + link * 256 + 0x11)) listed))
 
-unfoldable pub msixCard : ℕ → List ℕ
-msixCard n = cardWith (msixCapability 0 n)
+-- the sizes of BARs 0 and 1
+abbrev pub sizesOf : ℕ → ℕ → List ℕ
+sizesOf a b = a ∷ b ∷ 0 ∷ 0 ∷ 0 ∷ 0 ∷ []
 
--- MSI-X at 40h, and MSI at 50h
-unfoldable pub bothCard : ℕ → List ℕ
-bothCard n = put 0x50 (0x05 ∷ 0 ∷ 0x06 ∷ 0 ∷ []) (cardWith (msixCapability 0x50 n))
+-- ---- calls, each over an output of 64 bytes or as said
 
--- ---- calls
+unfoldable pub writes : (offset width value : ℕ) (bytes : List ℕ) → Expect
+writes o n x bytes = record { call = configWrite o n x (fresh 64); bytes = bytes; answer = Done }
 
-unfoldable pub sending : (List ℕ → Call) → List ℕ → Expect
-sending c bytes = record { call = c; bytes = bytes; answer = Done }
+-- four bytes of BAR 0
+unfoldable pub stores : (offset value : ℕ) (bytes : List ℕ) → Expect
+stores o x bytes = record { call = barWrite 0 o 4 x (fresh 64); bytes = bytes; answer = Done }
 
-unfoldable pub reads : ℕ → ℕ → ℕ → Expect
-reads o n x = record { call = λ out. configRead o n; bytes = []; answer = Value x }
+unfoldable pub raises : (number room : ℕ) → Answer → (bytes : List ℕ) → Expect
+raises e room answer bytes = record { call = event e (fresh room); bytes = bytes; answer = answer }
 
-unfoldable pub raises : ℕ → List ℕ → Answer → Expect
-raises e bytes a = record { call = event e; bytes = bytes; answer = a }
+unfoldable pub drives : Bool → (bytes : List ℕ) → Expect
+drives level bytes = record { call = line level (fresh 64); bytes = bytes; answer = Done }
 
-unfoldable pub writes : ℕ → ℕ → ℕ → Expect
-writes o n x = sending (configWrite o n x) []
+unfoldable pub readsConfig : (offset width value : ℕ) → Expect
+readsConfig o n x = record { call = configRead o n; bytes = []; answer = Value x }
 
--- entry v of the table: address, upper address 1, data
-unfoldable pub entry : (v address value : ℕ) → List Expect
-entry v address value =
-    sending (barWrite 0 (16 * v) 4 address) []
-    ∷ sending (barWrite 0 (16 * v + 4) 4 1) []
-    ∷ sending (barWrite 0 (16 * v + 8) 4 value) []
-    ∷ []
+-- eight bytes of BAR 0
+unfoldable pub readsBar : (offset value : ℕ) → Expect
+readsBar o x = record { call = barRead 0 o 8; bytes = []; answer = Value x }
 
-unfoldable pub unmask : ℕ → List ℕ → Expect
-unmask v bytes = sending (barWrite 0 (16 * v + 12) 4 0) bytes
+unfoldable pub resets : (bytes : List ℕ) → Expect
+resets bytes = record { call = reset (fresh 64); bytes = bytes; answer = Done }
 
--- Command: memory space, and bus mastering with it
-unfoldable pub memory : Expect
-memory = writes 4 2 2
+unfoldable pub saves : (room : ℕ) (bytes : List ℕ) → Expect
+saves room bytes = record { call = save (fresh room); bytes = bytes; answer = Done }
 
-unfoldable pub memoryAndBus : Expect
-memoryAndBus = writes 4 2 6
+-- ---- groups of calls
 
--- MSI on with this address, data register and Enable; bus mastering on
-unfoldable pub msiSteps : (address value enable : ℕ) → List Expect
-msiSteps address value enable =
-    writes 0x44 4 address ∷ writes 0x48 2 value ∷ writes 0x42 2 (16 * enable + 1) ∷ writes 4 2 4 ∷ []
+unfoldable pub command : ℕ → Expect
+command x = writes 0x04 2 x []
+
+-- Message Control of the capability at 40h
+unfoldable pub control : ℕ → (bytes : List ℕ) → Expect
+control x bytes = writes 0x42 2 x bytes
+
+-- entry v of the table: address FEE01000h, upper address 1, data
+unfoldable pub entry : (v value : ℕ) → List Expect
+entry v value = stores (16 * v) 0xfee01000 [] ∷ stores (16 * v + 4) 1 [] ∷ stores (16 * v + 8) value [] ∷ []
+
+-- the mask bit of entry v cleared
+unfoldable pub unmask : ℕ → (bytes : List ℕ) → Expect
+unmask v bytes = stores (16 * v + 12) 0 bytes
+
+-- MSI on with address FEE00000h, this data register and this Enable; bus mastering on
+unfoldable pub msiSteps : (value enable : ℕ) → List Expect
+msiSteps value enable =
+    command 0x0004 ∷ writes 0x44 4 0xfee00000 [] ∷ writes 0x48 2 value [] ∷ control (16 * enable + 1) [] ∷ []
+
+-- one MSI-X vector with data 31h and mask 0
+unfoldable pub oneVector : ℕ → List Expect
+oneVector x = command x ∷ entry 0 0x31 ++ (unmask 0 [] ∷ [])
 
 -- ---- packets
 
@@ -139,86 +107,129 @@ wirePacket code = 0x34 ∷ 0 ∷ 0 ∷ 0 ∷ 1 ∷ 0 ∷ 0 ∷ code ∷ 0 ∷ 0 
 
 -- ---- kinds of cases
 
-unfoldable pub msiCase : (events value enable number : ℕ) → List ℕ → Case
-msiCase events value enable number bytes =
-    record {
-      config = msiCard;
-      size = 0;
-      events = events;
-      vectors = 0;
-      room = 40;
-      steps = msiSteps 0xfee00000 value enable ++ (raises number bytes Sent ∷ []);
-    }
+unfoldable pub msiCase : (events value enable : ℕ) → List Expect → Case
+msiCase events value enable steps =
+    record { config = msiCard; sizes = sizesOf 0 0; events = events; vectors = 0; steps = msiSteps value enable ++ steps }
 
+-- the table at the start of BAR 0, the pending array at 1000h of it, and as many events as vectors
 unfoldable pub msixCase : ℕ → List Expect → Case
-msixCase n steps = record { config = msixCard n; size = 0x2000; events = n; vectors = n; room = 60; steps = steps }
+msixCase n steps =
+    record { config = msixCard 0 n 0 0x1000; sizes = sizesOf 0x2000 0; events = n; vectors = n; steps = steps }
 
-unfoldable pub pinCase : List Expect → Case
-pinCase steps = record { config = cardWith []; size = 0; events = 1; vectors = 0; room = 16; steps = steps }
+unfoldable pub plainCase : (pin : ℕ) → List Expect → Case
+plainCase pin steps = record { config = header pin; sizes = sizesOf 0 0; events = 1; vectors = 0; steps = steps }
 
 -- ---- cases 1 to 11
 
+unfoldable pub case1 : Case
+case1 = msiCase 4 0x49a0 2 (raises 1 40 Sent (message32 0xa1 0x49) ∷ [])
+
+unfoldable pub case2 : Case
+case2 = msiCase 4 0x49a3 2 (raises 1 40 Sent (message32 0xa1 0x49) ∷ [])
+
+unfoldable pub case3 : Case
+case3 = msiCase 8 0x49a0 2 (raises 5 40 Sent (message32 0xa1 0x49) ∷ [])
+
+unfoldable pub case4 : Case
+case4 = msiCase 8 0x0040 3 (raises 5 40 Sent (message32 0x45 0) ∷ [])
+
+unfoldable pub case5 : Case
+case5 = msixCase 1 (oneVector 0x0006 ++ (control 0x8000 [] ∷ raises 0 40 Sent (message64 0x31) ∷ []))
+
+unfoldable pub case6 : Case
+case6 =
+    plainCase 1
+    (command 0x0004 ∷ drives true (wirePacket 0x20) ∷ readsConfig 0x06 2 0x0008 ∷ drives false (wirePacket 0x24) ∷ [])
+
+unfoldable pub case7 : Case
+case7 =
+    msixCase 4
+    (command 0x0006 ∷ entry 3 0x33
+    ++ (control 0x8000 [] ∷ raises 3 40 Held [] ∷ raises 3 40 Merged [] ∷ readsBar 0x1000 0x08 ∷ unmask 3 (message64 0x33)
+    ∷ readsBar 0x1000 0 ∷ []))
+
+unfoldable pub case8 : Case
+case8 =
+    msixCase 10
+    (command 0x0006 ∷ entry 2 0x32 ++ entry 9 0x39
+    ++ (unmask 2 [] ∷ unmask 9 [] ∷ control 0xc000 [] ∷ raises 9 40 Held [] ∷ raises 2 40 Held []
+    ∷ control 0x8000 (message64 0x32 ++ message64 0x39) ∷ []))
+
+unfoldable pub case9 : Case
+case9 =
+    msixCase 1 (oneVector 0x0002 ++ (control 0x8000 [] ∷ raises 0 40 Held [] ∷ writes 0x04 2 0x0006 (message64 0x31) ∷ []))
+
+unfoldable pub case10 : Case
+case10 =
+    msixCase 1
+    (oneVector 0x0006
+    ++ (control 0xc000 [] ∷ raises 0 40 Held [] ∷ control 0x0000 [] ∷ drives true (wirePacket 0x20)
+    ∷ control 0x8000 (wirePacket 0x24 ++ message64 0x31) ∷ []))
+
+unfoldable pub case11 : Case
+case11 = plainCase 0 (saves 300 (0x49 ∷ 0x52 ∷ 0x51 ∷ 1 ∷ 0 ∷ 0 ∷ 1 ∷ 0 ∷ 0 ∷ 1 ∷ replicate 284 0) ∷ [])
+
 unfoldable pub starredCases : List Case
 starredCases =
-    msiCase 4 0x49a0 2 1 (message32 0xa1 0x49)
-    ∷ msiCase 4 0x49a3 2 1 (message32 0xa1 0x49)
-    ∷ msiCase 8 0x49a0 2 5 (message32 0xa1 0x49)
-    ∷ msiCase 8 0x0040 3 5 (message32 0x45 0)
-    ∷ msixCase 1 (memoryAndBus ∷ entry 0 0xfee01000 0x31 ++ (unmask 0 [] ∷ writes 0x42 2 0x8000 ∷ raises 0 (message64 0x31) Sent ∷ []))
-    ∷ pinCase (writes 4 2 4 ∷ sending (line true) (wirePacket 0x20) ∷ sending (line false) (wirePacket 0x24) ∷ [])
-    ∷ msixCase 4
-    (memoryAndBus ∷ entry 3 0xfee01000 0x33
-    ++ (writes 0x42 2 0x8000 ∷ raises 3 [] Held ∷ raises 3 [] Merged ∷ unmask 3 (message64 0x33) ∷ []))
-    ∷ msixCase 10
-    (memoryAndBus ∷ entry 2 0xfee01000 0x32 ++ entry 9 0xfee01000 0x39
-    ++ (unmask 2 [] ∷ unmask 9 [] ∷ writes 0x42 2 0xc000 ∷ raises 9 [] Held ∷ raises 2 [] Held
-    ∷ sending (configWrite 0x42 2 0x8000) (message64 0x32 ++ message64 0x39) ∷ []))
-    ∷ msixCase 1
-    (memory ∷ entry 0 0xfee01000 0x31
-    ++ (unmask 0 [] ∷ writes 0x42 2 0x8000 ∷ raises 0 [] Held ∷ sending (configWrite 4 2 6) (message64 0x31) ∷ []))
-    ∷ msixCase 1
-    (memoryAndBus ∷ entry 0 0xfee01000 0x31
-    ++ (unmask 0 [] ∷ writes 0x42 2 0xc000 ∷ raises 0 [] Held ∷ writes 0x42 2 0 ∷ sending (line true) (wirePacket 0x20)
-    ∷ sending (configWrite 0x42 2 0x8000) (wirePacket 0x24 ++ message64 0x31) ∷ []))
-    ∷ record {
-      config = blank;
-      size = 0;
-      events = 1;
-      vectors = 0;
-      room = 300;
-      steps = sending save (0x49 ∷ 0x52 ∷ 0x51 ∷ 1 ∷ 0 ∷ 0 ∷ 1 ∷ 0 ∷ 0 ∷ 1 ∷ replicate 284 0) ∷ [];
-    }
-    ∷ []
+    case1 ∷ case2 ∷ case3 ∷ case4 ∷ case5 ∷ case6 ∷ case7 ∷ case8 ∷ case9 ∷ case10 ∷ case11 ∷ []
+
+-- ---- cases 12 and 13
+
+unfoldable pub lastEvent : Case
+lastEvent = msiCase 8 0x49a0 2 (raises 7 40 Sent (message32 0xa3 0x49) ∷ raises 8 40 (Refused 2) [] ∷ [])
+
+unfoldable pub shortOutput : Case
+shortOutput = msiCase 4 0x49a0 2 (raises 1 15 (Refused 6) [] ∷ raises 1 16 Sent (message32 0xa1 0x49) ∷ [])
+
+-- the card of case 1 before the event, and whether an event over 15 bytes leaves it as it was, by its images before and after
+unfoldable pub caseOneCard : Played
+caseOneCard = playedAll (begun msiCard (sizesOf 0 0) 4 0 Done) (msiSteps 0x49a0 2)
+
+unfoldable pub shortKeeps : Bool
+shortKeeps = sameImage (imageTaken (caseOneCard .world)) (imageTaken (played caseOneCard (raises 1 15 (Refused 6) []) .world))
+
+-- a table of 64 bytes from 40h of BAR 0 on, and a pending array that fills BAR 1
+unfoldable pub tableEnds : (size : ℕ) → Answer → Played
+tableEnds size answer = begun (msixCard 0 4 0x40 1) (sizesOf size 8) 4 4 answer
+
+unfoldable pub limits : Bool
+limits =
+    allPass (lastEvent ∷ shortOutput ∷ []) && shortKeeps && tableEnds 0x80 Done .good
+    && tableEnds 0x78 (Refused 14) .good
 
 -- ---- for the errors that tempt
+
+-- MSI-X at 40h, and MSI at 50h
+unfoldable pub bothCard : List ℕ
+bothCard = put 0x50 (bytesOf 4 0x00060005) (msixCard 0x50 2 0 0x1000)
 
 -- the wire with bus mastering off; what a reset leaves of a waiting vector; MSI-X over MSI with both on; a 64-bit form's data at 0Ch, its masks at 10h
 -- and its waiting bits shown at 14h
 unfoldable pub temptingCases : List Case
 temptingCases =
-    pinCase (sending (line true) (wirePacket 0x20) ∷ writes 4 2 4 ∷ reads 6 2 0x18 ∷ sending reset (wirePacket 0x24) ∷ reads 6 2 0x10 ∷ [])
+    plainCase 1
+    (drives true (wirePacket 0x20) ∷ command 0x0004 ∷ readsConfig 0x06 2 0x0008 ∷ resets (wirePacket 0x24)
+    ∷ readsConfig 0x06 2 0x0000 ∷ [])
     ∷ msixCase 1
-    (memoryAndBus ∷ unmask 0 [] ∷ writes 0x42 2 0xc000 ∷ raises 0 [] Held ∷ sending reset [] ∷ memoryAndBus ∷ unmask 0 []
-    ∷ writes 0x42 2 0x8000 ∷ [])
+    (command 0x0006 ∷ unmask 0 [] ∷ control 0xc000 [] ∷ raises 0 40 Held [] ∷ resets [] ∷ command 0x0006 ∷ unmask 0 []
+    ∷ control 0x8000 [] ∷ [])
     ∷ record {
-      config = bothCard 2;
-      size = 0x2000;
+      config = bothCard;
+      sizes = sizesOf 0x2000 0;
       events = 2;
       vectors = 2;
-      room = 60;
       steps =
-          memoryAndBus ∷ entry 1 0xfee01000 0x31
-          ++ (unmask 1 [] ∷ writes 0x52 2 1 ∷ writes 0x42 2 0x8000 ∷ raises 1 (message64 0x31) Sent ∷ []);
+          command 0x0006 ∷ entry 1 0x31
+          ++ (unmask 1 [] ∷ writes 0x52 2 1 [] ∷ control 0x8000 [] ∷ raises 1 40 Sent (message64 0x31) ∷ []);
     }
     ∷ record {
       config = wideMsiCard;
-      size = 0;
+      sizes = sizesOf 0 0;
       events = 4;
       vectors = 0;
-      room = 40;
       steps =
-          writes 0x44 4 0xfee01000 ∷ writes 0x48 4 1 ∷ writes 0x4c 2 0x30 ∷ writes 0x50 4 0xffffffff ∷ reads 0x50 4 0xff
-          ∷ writes 0x42 2 0x11 ∷ writes 4 2 4 ∷ raises 3 [] Held ∷ reads 0x54 4 2
-          ∷ sending (configWrite 0x50 1 0) (message64 0x31) ∷ reads 0x54 4 0 ∷ [];
+          writes 0x44 4 0xfee01000 [] ∷ writes 0x48 4 1 [] ∷ writes 0x4c 2 0x30 [] ∷ writes 0x50 4 0xffffffff []
+          ∷ readsConfig 0x50 4 0xff ∷ control 0x11 [] ∷ command 0x0004 ∷ raises 3 40 Held [] ∷ readsConfig 0x54 4 2
+          ∷ writes 0x50 1 0 (message64 0x31) ∷ readsConfig 0x54 4 0 ∷ [];
     }
     ∷ []

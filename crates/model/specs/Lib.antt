@@ -16,4 +16,5 @@ pub mod Since
 pub mod History
 pub mod Claims
 pub mod Trials
+pub mod Play
 pub mod Cases
