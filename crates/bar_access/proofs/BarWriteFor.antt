@@ -1,29 +1,25 @@
 -- The call that writes a BAR, where it is not refused. Assumes nothing.
-use mathlib.Core.Path.{_≡_, refl, sym, ap, ap₂, _∙_}
-use mathlib.Core.Bool.{Bool, true, false, not, _&&_}
-use mathlib.Core.List.{List, [], _++_}
+use mathlib.Core.Path.{_≡_, refl, sym, ap, _∙_}
+use mathlib.Core.Bool.{Bool, true, false, not}
+use mathlib.Core.List.{List, []}
 use Prim.Native.Nat.{ℕ, _+_, _-_, _%_, _≤_, _<_}
 use native.Mathlib.Omega.{arith}
-use lib.Dec.{eqb}
 use lib.ListN.{length}
 use borrow.Author.Tests.{not-true, not-false}
-use Rattle.words.specs.Lists.{within, firstOf}
 use Rattle.words.specs.Bytes.{bytesOf}
-use Rattle.words.proofs.BoolLaws.{both}
-use Rattle.words.proofs.ListLaws.{within-true}
 use Rattle.model.specs.declared.Answer.the-variants.{Done}
 use Rattle.model.specs.declared.Card.{Card}
 use Rattle.model.specs.declared.Shape.{Shape}
-use Rattle.model.specs.Shape.{shapeOf, msixPresent, tableBytes}
-use Rattle.model.specs.World.{World, Endpoint, registers, worldOf}
-use Rattle.model.specs.Registers.{inRegion, inTable}
+use Rattle.model.specs.Shape.{shapeOf, tableBytes}
+use Rattle.model.specs.World.{Endpoint, registers, worldOf}
+use Rattle.model.specs.Registers.{inTable}
 use Rattle.model.specs.Vectors.{commandBit}
-use Rattle.model.specs.Release.{settleBytes, wireChange}
 use Rattle.model.specs.Sound.{sound, shape}
 use Rattle.model.specs.Calls as Calls
-use Rattle.model.specs.Calls.{barWrite, rows, changed, outputOf, badBar, step, accepted}
-use Rattle.model.proofs.EventLaws.{swept-none, bytes-none, no-change}
-use Rattle.model.proofs.SoundLaws.{Sound, is-sound}
+use Rattle.model.specs.Calls.{barWrite, badBar, step, accepted}
+use Rattle.model.proofs.AccessCalls.{bar-writes}
+use Rattle.model.proofs.BarLaws.{in-table}
+use Rattle.model.proofs.SettleCalls.{Settles, table-settles, pending-settles, nothing-sent, settled-same}
 use Rattle.registers.proofs.AccessLaws.{aligned, bar-access}
 use Rattle.card.specs.declared.outcome.Outcome.{Outcome}
 use Rattle.card.specs.Outcomes.{acceptedWith, after, settleOf}
@@ -32,48 +28,13 @@ use Rattle.card.proofs.SoundFor.{is-sound-now}
 use Rattle.bar_access.proofs.BarFor.{bar-fit, bar-passes}
 use Rattle.card.proofs.SettleFor.{settle-room}
 use Rattle.card.proofs.CallsFor as CallsFor
-use Rattle.card.proofs.CallsFor.{bar-settles}
-
--- a place in the table
-in-table : (s : Shape) (b o : ℕ) → inTable s b o ≡ true → (s .msix .table .at ≤ o) × (o < s .msix .table .at + tableBytes s)
-unfolding inTable inRegion
-in-table s b o e =
-    within-true (s .msix .table .at) (tableBytes s) o
-    (both (eqb b (s .msix .table .bar)) (within (s .msix .table .at) (tableBytes s) o)
-    (both (msixPresent s) (eqb b (s .msix .table .bar) && within (s .msix .table .at) (tableBytes s) o) e .1) .1)
 
 -- nothing follows where nothing changes
 settle-none : (card : Card) (t p out : List ℕ) → sound (worldOf card t p) ≡ true
     → settleOf card (shapeOf (card .function .config)) (worldOf card t p .endpoint) (worldOf card t p) out ≡ accepted (worldOf card t p) Done [] out
-unfolding settleBytes
 settle-none card t p out k =
-    let s : Shape = shapeOf (card .function .config) in
-    let u : Endpoint = worldOf card t p .endpoint in
-    let w : Sound (worldOf card t p) = is-sound (worldOf card t p) k in
-    let none : settleBytes s (card .wire) u ≡ [] =
-    ap₂ _++_ (ap (wireChange (card .function .requester) (registers u) (card .wire)) (sym (w .wire)) ∙ no-change (card .function .requester) (registers u) (card .wire))
-    (bytes-none s u (w .endpoint .quiet)) in
-    settle-room card s u (worldOf card t p) out (rw none (omega arith))
-    ∙ (λ i. accepted (record { endpoint = swept-none s u (w .endpoint .quiet) i; wire = sym (w .wire) i }) Done (none i) out)
-
--- the registers after a write
-module _ (card : Card) (t p out : List ℕ) (b o n x : ℕ) where
-  written-in : inTable (shapeOf (card .function .config)) b o ≡ true
-      → changed (worldOf card t p .endpoint) (barWrite b o n x out) ≡ tableWritten (worldOf card t p) (o - shapeOf (card .function .config) .msix .table .at) (bytesOf n x)
-  unfolding changed
-  written-in e = rw e
-
-  written-out : inTable (shapeOf (card .function .config)) b o ≡ false → changed (worldOf card t p .endpoint) (barWrite b o n x out) ≡ worldOf card t p .endpoint
-  unfolding changed
-  written-out e = rw e
-
-  -- no row applies: what follows the change
-  step-settles : sound (worldOf card t p) ≡ true → firstOf (rows (worldOf card t p .endpoint) (barWrite b o n x out)) ≡ 0
-      → step (worldOf card t p) (barWrite b o n x out)
-      ≡ settleOf card (shapeOf (card .function .config)) (changed (worldOf card t p .endpoint) (barWrite b o n x out)) (worldOf card t p) out
-  unfolding outputOf
-  step-settles k e =
-      sym (CallsFor.settles card t p (barWrite b o n x out) (bar-settles (worldOf card t p) b o n x out) (shapeOf (card .function .config)) (changed (worldOf card t p .endpoint) (barWrite b o n x out)) refl refl k e)
+    settle-room card (shapeOf (card .function .config)) (worldOf card t p .endpoint) (worldOf card t p) out (rw (nothing-sent (worldOf card t p) k) (omega arith))
+    ∙ (λ i. accepted (settled-same (worldOf card t p) k i) Done (nothing-sent (worldOf card t p) k i) out)
 
 -- ---- tests k of the card, whose shape is s, g of the access, m of Command bit 1, i of the place
 
@@ -95,18 +56,21 @@ module _ (card : Card) (t p : List ℕ) (k : Bool) (e : k ≡ sound (worldOf car
       (is-sound-now (worldOf card t p) k e h, z, omega arith, omega arith)
 
   module _ (m : Bool) (v : m ≡ commandBit (registers (worldOf card t p .endpoint)) 1) (l : not m ≡ false) (x : ℕ) (out : List ℕ) where
-    settles : step (worldOf card t p) (barWrite b o n x out)
-        ≡ settleOf card (shapeOf (card .function .config)) (changed (worldOf card t p .endpoint) (barWrite b o n x out)) (worldOf card t p) out
-    unfolding rows
-    settles = step-settles card t p out b o n x (is-sound-now (worldOf card t p) k e h) (bar-passes card t p k e h s z b o n g d f m v l)
+    place : (x : Bool) → i ≡ x → inTable (shape (worldOf card t p .endpoint)) b o ≡ x
+    place x j = ap (λ (s : Shape). inTable s b o) (sym z) ∙ sym q ∙ j
+
+    -- the function becomes u
+    settles : (u : Endpoint) → Settles (worldOf card t p) (barWrite b o n x out) u
+        → settleOf card (shapeOf (card .function .config)) u (worldOf card t p) out ≡ step (worldOf card t p) (barWrite b o n x out)
+    settles u to =
+        CallsFor.settles card t p (barWrite b o n x out) u u to (shapeOf (card .function .config)) refl refl (is-sound-now (worldOf card t p) k e h)
+        (bar-passes card t p k e h s z b o n g d f m v l (barWrite b o n x out) (bar-writes x out))
 
     -- the pending array
     pub bar-write-none : (r : Outcome) → not i ≡ true → r ≡ acceptedWith card Done 0 → after r t p out ≡ step (worldOf card t p) (barWrite b o n x out)
     bar-write-none r j a =
-        (λ y. after (a y) t p out)
-        ∙ sym (settles
-        ∙ ap (λ (u : Endpoint). settleOf card (shapeOf (card .function .config)) u (worldOf card t p) out) (written-out card t p out b o n x (ap (λ (s : Shape). inTable s b o) (sym z) ∙ sym q ∙ not-true i j))
-        ∙ settle-none card t p out (is-sound-now (worldOf card t p) k e h))
+        (λ y. after (a y) t p out) ∙ sym (settle-none card t p out (is-sound-now (worldOf card t p) k e h))
+        ∙ settles (worldOf card t p .endpoint) (pending-settles (worldOf card t p) b o n x out (place false (not-true i j)))
 
     -- the table
     pub bar-write-table : (r : Calls.Outcome) → not i ≡ false
@@ -115,5 +79,4 @@ module _ (card : Card) (t p : List ℕ) (k : Bool) (e : k ≡ sound (worldOf car
     bar-write-table r j a =
         a
         ∙ ap (λ (s : Shape). settleOf card s (tableWritten (worldOf card t p) (o - s .msix .table .at) (bytesOf n x)) (worldOf card t p) out) z
-        ∙ sym (settles
-        ∙ ap (λ (u : Endpoint). settleOf card (shapeOf (card .function .config)) u (worldOf card t p) out) (written-in card t p out b o n x (ap (λ (s : Shape). inTable s b o) (sym z) ∙ sym q ∙ not-false i j)))
+        ∙ settles _ (table-settles (worldOf card t p) b o n x out (place true (not-false i j)))

@@ -2,43 +2,30 @@
 use mathlib.Core.Path.{_≡_, sym, ap, _∙_}
 use mathlib.Core.Bool.{Bool, true, false, not, _&&_, and-false, and-true}
 use mathlib.Core.List.{List}
-use Prim.Native.Nat.{ℕ, _+_, _-_, _*_, _/_, _%_, _^_, _≤_, _<_}
+use Prim.Native.Nat.{ℕ, _+_, _-_, _*_, _/_, _%_, _≤_, _<_}
 use native.Mathlib.Omega.{arith}
-use lib.Bits.{bitAnd}
-use lib.Pow.{pow-lt}
 use lib.ListN.{length, take, drop, length-drop, List·getD-append}
 use lib.Seq.{length-take-le, getD-take, getD-drop}
 use borrow.Author.Tests.{not-true, not-false}
 use Rattle.words.specs.Lists.{within}
-use Rattle.words.specs.Bits.{bit, clearBit}
-use Rattle.words.specs.Bytes.{byte, bitAt, bytesOf, word32}
+use Rattle.words.specs.Bytes.{byte, bytesOf}
 use Rattle.words.specs.Writers.{over}
-use Rattle.words.proofs.BitLaws.{and-not}
 use Rattle.words.proofs.BoolLaws.{same-test}
-use Rattle.words.proofs.ByteLaws.{length-bytesOf, number-shift}
+use Rattle.words.proofs.ByteLaws.{length-bytesOf}
 use Rattle.words.proofs.ListLaws.{within-true, true-within}
 use Rattle.model.specs.declared.Mode.the-variants.{Msix}
 use Rattle.model.specs.declared.Shape.{Shape}
 use Rattle.model.specs.World.{Endpoint, withWaiting}
 use Rattle.model.specs.Registers.{entryWritable, written}
 use Rattle.model.specs.Vectors.{masked, isOpen, waits}
-use Rattle.model.specs.Packets.{messageOf}
 use Rattle.model.proofs.WriteLaws.{byte-written}
+use Rattle.model.proofs.EntryLaws.{entry-writable, entry-masked}
 use Rattle.vectors.specs.Given.{regs}
 use Rattle.vectors.specs.Enabled.{msixEnabled}
 use Rattle.vectors.proofs.MsixLaws.{when-masked, when-clear}
 use Rattle.bar_access.specs.Entries.{IsEntry}
 
-pub clear-byte : (x k : ℕ) → k < 8 → x < 256 → bitAnd (255 - 2 ^ k) x ≡ clearBit x k
-unfolding clearBit
-clear-byte x k h j = and-not 8 (2 ^ k) x (pow-lt h) j
-
 -- ---- the entry after a write
-
--- the same bits of every entry are writable
-mask-again : (q i : ℕ) → entryWritable (16 * q + i) ≡ entryWritable i
-unfolding entryWritable
-mask-again q i = let e : (16 * q + i) % 16 ≡ i % 16 = omega arith in rw e
 
 -- n bytes at place `at` of the table, and at place `at` % 16 of the entry
 module _ (at n : ℕ) where
@@ -56,7 +43,7 @@ module _ (at n : ℕ) where
       let j : i - at % 16 ≡ k - at = omega arith in
       let r : within (at % 16) (length (bytesOf n x)) i ≡ within at (length (bytesOf n x)) k = rw (length-bytesOf n x) (reached i h) in
       byte-written entryWritable e (at % 16) (bytesOf n x) i (omega arith)
-      ∙ rw (same i h, r, sym (mask-again (at / 16) i), j) (sym (byte-written entryWritable t at (bytesOf n x) k (omega arith)))
+      ∙ rw (same i h, r, sym (entry-writable (at / 16) i), j) (sym (byte-written entryWritable t at (bytesOf n x) k (omega arith)))
 
 -- its 16 bytes copied
 copied : (t o : List ℕ) (v : ℕ) → 16 * v + 16 ≤ length t → IsEntry (over (take 16 (drop (16 * v) t)) o) t v
@@ -75,24 +62,6 @@ entry-copied t o e e′ at n x p q h l i j =
 -- ---- the vector of an entry
 
 module _ (e t : List ℕ) (v : ℕ) (same : IsEntry e t v) where
-  entry-masked : (s : Shape) (c : List ℕ) → masked Msix s (regs c e) 0 ≡ masked Msix s (regs c t) v
-  unfolding masked bitAt
-  entry-masked s c =
-      let a : 16 * v + 12 ≡ 16 * v + 12 + 0 = omega arith in
-      ap (λ (x : ℕ). bit x 0) (same 12 (omega arith) ∙ ap (byte t) a)
-
-  word-same : (i : ℕ) → i + 4 ≤ 16 → word32 e i ≡ word32 t (16 * v + i)
-  unfolding word32
-  word-same i h =
-      number-shift (byte e) (byte t) i (16 * v + i) 4
-      (λ k l. let a : 16 * v + (i + k) ≡ 16 * v + i + k = omega arith in same (i + k) (omega arith) ∙ ap (byte t) a)
-
-  pub entry-message : (s : Shape) (c : List ℕ) (requester : ℕ) → messageOf Msix s requester (regs c e) 0 ≡ messageOf Msix s requester (regs c t) v
-  unfolding messageOf
-  entry-message s c requester =
-      let a : 16 * v + 0 ≡ 16 * v = omega arith in
-      rw (word-same 4 (omega arith), word-same 0 (omega arith), word-same 8 (omega arith), a)
-
   -- open and waiting, by each way to find it
   module _ (s : Shape) (c p : List ℕ) (u : Endpoint) (b : Bool) (d : b ≡ waits Msix (withWaiting u 0 p) v) where
     pub owed-idle : not b ≡ true → false ≡ (isOpen Msix s (regs c t) v && waits Msix (withWaiting u 0 p) v)
@@ -100,10 +69,10 @@ module _ (e t : List ℕ) (v : ℕ) (same : IsEntry e t v) where
 
     module _ (m : Bool) (f : m ≡ masked Msix s (regs c e) 0) where
       pub owed-masked : m ≡ true → false ≡ (isOpen Msix s (regs c t) v && waits Msix (withWaiting u 0 p) v)
-      owed-masked h = ap (λ (x : Bool). x && waits Msix (withWaiting u 0 p) v) (when-masked s (regs c t) v (sym (entry-masked s c) ∙ sym f ∙ h))
+      owed-masked h = ap (λ (x : Bool). x && waits Msix (withWaiting u 0 p) v) (when-masked s (regs c t) v (sym (entry-masked e t v same s c) ∙ sym f ∙ h))
 
       pub owed-open : (r : Bool) → not b ≡ false → m ≡ false → v < s .msix .vectors → r ≡ msixEnabled s (regs c t)
           → r ≡ (isOpen Msix s (regs c t) v && waits Msix (withWaiting u 0 p) v)
       owed-open r h g l q =
-          q ∙ when-clear s (regs c t) v l (sym (entry-masked s c) ∙ sym f ∙ g)
+          q ∙ when-clear s (regs c t) v l (sym (entry-masked e t v same s c) ∙ sym f ∙ g)
           ∙ sym (ap (λ (x : Bool). isOpen Msix s (regs c t) v && x) (sym d ∙ not-false b h) ∙ and-true (isOpen Msix s (regs c t) v))

@@ -1,7 +1,7 @@
 -- A write of one table entry: what it asks, and its three ways out. Assumes nothing.
-use mathlib.Core.Path.{_≡_, sym, ap, ap₂, _∙_}
+use mathlib.Core.Path.{_≡_, refl, sym, ap, ap₂, _∙_}
 use mathlib.Core.Bool.{Bool, true, false, not, cond, _&&_}
-use mathlib.Core.List.{List, [], _++_}
+use mathlib.Core.List.{List, []}
 use Prim.Native.Nat.{ℕ, _+_, _*_, _/_, _%_, _≤_, _<_}
 use native.Mathlib.Omega.{arith}
 use lib.ListN.{length, set}
@@ -15,19 +15,21 @@ use Rattle.model.specs.declared.Card.{Card}
 use Rattle.model.specs.declared.Mode.the-variants.{Msix}
 use Rattle.model.specs.declared.Shape.{Shape}
 use Rattle.model.specs.Fit.{Fit}
-use Rattle.model.specs.Shape.{shapeOf, tableBytes, pendingBytes}
+use Rattle.model.specs.Shape.{shapeOf}
 use Rattle.model.specs.World.{World, Endpoint, registers, worldOf, withWaiting}
 use Rattle.model.specs.Registers.{entryWritable, written}
 use Rattle.model.specs.Vectors.{isOpen, waits, changeWaiting}
 use Rattle.model.specs.Packets.{message, messageSize, messageOf}
-use Rattle.model.specs.Release.{settled, settleBytes, wireChange, wireDueOf}
+use Rattle.model.specs.Release.{settled, settleBytes, wireDueOf}
 use Rattle.model.specs.Sound.{sound, shape}
 use Rattle.model.specs.Calls.{accepted}
 use Rattle.model.proofs.BarLaws.{bar-swept, bar-bytes, bar-wire}
-use Rattle.model.proofs.EventLaws.{no-change}
-use Rattle.model.proofs.FitLaws.{sound-fit}
+use Rattle.model.proofs.EntryLaws.{entry-message}
+use Rattle.model.proofs.FitLaws.{sound-fit, table-room, pending-room}
 use Rattle.model.proofs.PacketLaws.{message-length}
+use Rattle.model.proofs.SettleCalls.{vectors-only}
 use Rattle.model.proofs.SoundLaws.{Sound, is-sound}
+use Rattle.model.proofs.WaitingLaws.{waits-pending, change-msix}
 use Rattle.vectors.specs.declared.message.Message.{Message}
 use Rattle.vectors.specs.Given.{regs, FitShape}
 use Rattle.vectors.proofs.FitShapeLaws.{fit-shape}
@@ -35,7 +37,6 @@ use Rattle.card.specs.declared.outcome.Outcome.{Outcome}
 use Rattle.card.specs.Outcomes.{refusedWith, acceptedWith, after, settleOf}
 use Rattle.bar_access.specs.Entries.{IsEntry, tableWritten}
 use Rattle.card.proofs.SettleFor.{settle-refused, settle-room}
-use Rattle.bar_access.proofs.EntryFor.{entry-message}
 
 -- ---- n bytes at place `at` of the table of a sound card with shape s
 
@@ -48,24 +49,19 @@ module _ (card : Card) (t p : List ℕ) (s : Shape) (k : sound (worldOf card t p
   write-shape = fit-shape fits
 
   pub write-vector : at / 16 < s .msix .vectors
-  unfolding tableBytes
-  write-vector = let e = fits .table in omega arith
+  write-vector = let e = table-room s (length t) (length p) fits in omega arith
 
   pub write-entry : (at % 16 + n ≤ 16) × (16 * (at / 16) + 16 ≤ length t)
-  unfolding tableBytes
-  write-entry = let e = fits .table in (omega arith, omega arith)
+  write-entry = let e = table-room s (length t) (length p) fits in (omega arith, omega arith)
 
   pub write-room : at + n ≤ length t
-  unfolding tableBytes
-  write-room = let e = fits .table in omega arith
+  write-room = let e = table-room s (length t) (length p) fits in omega arith
 
   pub write-pending : at / 16 / 8 < length p
-  unfolding pendingBytes
-  write-pending = let e = fits .pending in let l = write-vector in omega arith
+  write-pending = let e = pending-room s (length t) (length p) fits in let l = write-vector in omega arith
 
   pub write-small : at < 32768
-  unfolding tableBytes
-  write-small = let e = fits .table in let l = fits .few in omega arith
+  write-small = let e = table-room s (length t) (length p) fits in let l = fits .few in omega arith
 
   -- ---- a value x, and the function after the write
 
@@ -100,18 +96,19 @@ module _ (card : Card) (t p : List ℕ) (s : Shape) (k : sound (worldOf card t p
         })
 
     write-bytes : settleBytes s (card .wire) u′ ≡ cond owed (messageOf Msix s (card .function .requester) (registers u′) (at / 16)) []
-    unfolding settleBytes
     write-bytes =
-        ap₂ _++_ (ap (wireChange (card .function .requester) (registers u′) (card .wire)) due ∙ no-change (card .function .requester) (registers u′) (card .wire))
-        (rw z (bar-bytes (worldOf card t p .endpoint) (whole .endpoint) at (bytesOf n x) (at / 16) (omega arith) last counted))
+        vectors-only s (card .wire) u′ due
+        ∙ rw z (bar-bytes (worldOf card t p .endpoint) (whole .endpoint) at (bytesOf n x) (at / 16) (omega arith) last counted)
 
     -- ---- a test b of that
 
     module _ (out : List ℕ) (r : Outcome) (b : Bool)
         (f : b ≡ (isOpen Msix s (regs (card .function .config) t′) (at / 16) && waits Msix (withWaiting (worldOf card t p .endpoint) 0 p) (at / 16))) where
       test : b ≡ owed
-      unfolding waits
-      test = f
+      test =
+          f
+          ∙ ap (λ (y : Bool). isOpen Msix s (regs (card .function .config) t′) (at / 16) && y)
+          (waits-pending (worldOf card t p .endpoint) (withWaiting (worldOf card t p .endpoint) 0 p) (at / 16) refl)
 
       pub write-quiet : (t₁ : List ℕ) → not b ≡ true → t₁ ≡ t′ → r ≡ acceptedWith card Done 0
           → after r t₁ p out ≡ settleOf card s u′ (worldOf card t p) out
@@ -146,10 +143,11 @@ module _ (card : Card) (t p : List ℕ) (s : Shape) (k : sound (worldOf card t p
         pub write-sent : (t₁ p₁ o₁ : List ℕ) (count : ℕ) → size ≤ length out → t₁ ≡ t′
             → p₁ ≡ set p (at / 16 / 8) (clearBit (byte p (at / 16 / 8)) (at / 16 % 8)) → Wrote packet out count o₁ → r ≡ acceptedWith card Done count
             → after r t₁ p₁ o₁ ≡ settleOf card s u′ (worldOf card t p) out
-        unfolding changeWaiting
         write-sent t₁ p₁ o₁ count l et ep wrote q =
             (λ i. after (q i) (et i) (ep i) (wrote .bytes i))
             ∙ (λ i. after (acceptedWith card Done (wrote .count i)) t′ (set p (at / 16 / 8) (clearBit (byte p (at / 16 / 8)) (at / 16 % 8))) (over packet out))
             ∙ sym (settle-room card s u′ (worldOf card t p) out (omega (arith, room))
             ∙ ap₂ (λ (w : World) (l : List ℕ). accepted w Done l out)
-            (after-write ∙ ap (λ (y : Bool). record { endpoint = cond y (changeWaiting clearBit Msix u′ (at / 16)) u′; wire = card .wire }) is-owed) sent)
+            (after-write ∙ ap (λ (y : Bool). record { endpoint = cond y (changeWaiting clearBit Msix u′ (at / 16)) u′; wire = card .wire }) is-owed
+            ∙ ap (λ (v : Endpoint). record { endpoint = v; wire = card .wire }) (change-msix clearBit u′ (at / 16)))
+            sent)

@@ -11,6 +11,7 @@ use Rattle.model.specs.World.{worldOf, cardOf}
 use Rattle.model.specs.Image.{cardBytes}
 use Rattle.model.specs.Calls as Calls
 use Rattle.model.specs.Calls.{Operation, operate}
+use Rattle.model.proofs.OutcomeLaws.{Reads, Plain, Bare}
 use Rattle.image.specs.Held.{cardIn}
 use Rattle.image.proofs.CardLaws.{card-alone}
 use Rattle.card.specs.declared.outcome.Outcome.{Outcome}
@@ -19,7 +20,6 @@ use Rattle.capi.specs.declared.bytes.Numbers.{Numbers}
 use Rattle.capi.specs.Numbers.{numbersOf}
 use Rattle.capi.specs.Crossing.{isCard, handed, back, wellFormed, lent, crossed}
 use Rattle.capi.proofs.CardFor.{card-kept}
-use Rattle.capi.proofs.Outcomes.{Reads, Plain, Bare}
 
 -- 60
 pub stopped : (card t p out : List ℕ) (o : Operation) → lent o ≡ out → wellFormed card o ≡ false → handed 60 card t p out 0 0 0 ≡ crossed card t p o

@@ -1,5 +1,4 @@
 pub mod CardFor
-pub mod Outcomes
 pub mod CrossingFor
 pub mod ReadFor
 pub mod StartFor

@@ -11,13 +11,14 @@ use Rattle.model.specs.Start.{given}
 use Rattle.model.specs.World.{worldOf, endpointOf, zeroFunction}
 use Rattle.model.specs.Calls as Calls
 use Rattle.model.specs.Calls.{Operation, start, startOf, operate}
+use Rattle.model.proofs.StartCalls.{start-buffers}
+use Rattle.model.proofs.OutcomeLaws.{start-bare}
 use Rattle.image.specs.Held.{cardIn}
 use Rattle.card.specs.declared.outcome.Outcome.{Outcome}
 use Rattle.card.specs.Outcomes.{after}
 use Rattle.capi.specs.declared.bytes.Numbers.{Numbers}
 use Rattle.capi.specs.Numbers.{numbersOf}
 use Rattle.capi.specs.Crossing.{handed, wellFormed, lent, crossed}
-use Rattle.capi.proofs.Outcomes.{start-bare}
 use Rattle.capi.proofs.CrossingFor.{stopped, through}
 
 module _ (card t p config sizes : List ℕ) (events requester : ℕ) where
@@ -46,11 +47,11 @@ module _ (card t p config sizes : List ℕ) (events requester : ℕ) where
         → after r t′ p′ [] ≡ startOf (endpointOf zeroFunction t p) (given bytes words events requester (length t) (length p))
         → (n : Numbers) → n ≡ numbersOf (r .answer) → (card′ : List ℕ) → card′ ≡ cardBytes (worldOf (r .card) [] [])
         → handed (n .refusal) card′ t′ p′ [] 0 0 0 ≡ crossed card t p o
-    unfolding operate startOf
     starts-back bytes words eb ew r t′ p′ q n m card′ w =
         let e : after r t′ p′ [] ≡ operate (worldOf (cardIn card) t p) o =
-        q ∙ (λ i. startOf (endpointOf zeroFunction t p) (given (eb i) (ew i) events requester (length t) (length p))) in
-        let z = start-bare (worldOf (cardIn card) t p) config sizes events requester in
+        q ∙ (λ i. startOf (endpointOf zeroFunction t p) (given (eb i) (ew i) events requester (length t) (length p)))
+        ∙ start-buffers zeroFunction (cardIn card .function) t p (given config sizes events requester (length t) (length p)) in
+        let z = start-bare (endpointOf (cardIn card .function) t p) (given config sizes events requester (length t) (length p)) in
         through card t p o right-lengths r t′ p′ [] e card′ (n .refusal) 0 0 0 w (ap (λ (k : Numbers). k .refusal) m)
         (sym (z .plain .value) ∙ sym (ap (λ (k : Calls.Outcome). valueOf (k .answer)) e)) (sym (z .plain .event) ∙ sym (ap (λ (k : Calls.Outcome). eventCode (k .answer)) e))
         (sym (z .count) ∙ sym (ap (λ (k : Calls.Outcome). k .count) e))

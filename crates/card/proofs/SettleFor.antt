@@ -17,6 +17,7 @@ use Rattle.model.specs.World.{World, Endpoint, registers, worldOf, functionOf, 
 use Rattle.model.specs.Release.{pinNumber, wireDueOf, wireChange, sweepBytes, swept, settled, settleBytes}
 use Rattle.model.specs.Calls as Calls
 use Rattle.model.proofs.BytesBound.{sweep-le}
+use Rattle.model.proofs.SettleCalls.{wire-first}
 use Rattle.words.proofs.Writers.{behind}
 use Rattle.endpoint.specs.declared.sweep.Sent.{Sent}
 use Rattle.endpoint.specs.Sweeps.{Swept}
@@ -41,8 +42,7 @@ module _ (card : Card) (s : Shape) (u : Endpoint) (o : Owed) (eo : o ≡ owedOf 
   wire-bytes = rw eo (owed-is (u .function .requester) (registers u) (card .wire) (wireDueOf s u))
 
   all-bytes : bytesOwed o (u .function .requester) (pinNumber (registers u)) ++ sweepBytes s u ≡ settleBytes s (card .wire) u
-  unfolding settleBytes
-  all-bytes = ap (λ (l : List ℕ). l ++ sweepBytes s u) wire-bytes
+  all-bytes = wire-first s (card .wire) u (bytesOwed o (u .function .requester) (pinNumber (registers u))) wire-bytes
 
   module _ (first rest : ℕ) (e₁ : first ≡ sizeOf o) (e₂ : rest ≡ length (sweepBytes s u)) where
     size-is : first + rest ≡ length (settleBytes s (card .wire) u)

@@ -1,31 +1,18 @@
 -- The code's soundness check and the definition. Assumes nothing.
 use mathlib.Core.Path.{_≡_, refl, sym, ap, _∙_}
 use mathlib.Core.Bool.{Bool, true, false, not, Bool·beq}
-use mathlib.Core.List.{List}
-use Prim.Native.Nat.{ℕ, _%_, _≤_}
-use lib.Dec.{ltb, eqb}
-use borrow.Author.Tests.{not-true, not-false, ltb-false}
-use Rattle.words.specs.Bytes.{byte}
-use Rattle.words.proofs.BoolLaws.{neither}
+use Prim.Native.Nat.{_≤_}
+use borrow.Author.Tests.{not-true, not-false}
 use Rattle.model.specs.declared.Shape.{Shape}
-use Rattle.model.specs.World.{World, Endpoint, registers}
+use Rattle.model.specs.World.{World, registers}
 use Rattle.model.specs.Release.{pinNumber, wireDueOf}
-use Rattle.model.specs.Start.{badHeader}
-use Rattle.model.specs.Ready.{Ready}
 use Rattle.model.specs.Sound.{givenOf, shape, soundEndpoint, sound}
 use Rattle.model.proofs.SoundLaws.{sound-endpoint, accepts, is-sound}
 use Rattle.model.proofs.SoundTests.{unsound-function, sound-wire}
 use Rattle.model.proofs.FitLaws.{fit, sound-fit}
-use Rattle.model.proofs.SettleLaws.{ready}
+use Rattle.model.proofs.SettleLaws.{ready, pin-small}
 use Rattle.vectors.specs.Given.{FitShape}
 use Rattle.vectors.proofs.FitShapeLaws.{fit-shape}
-
--- the pin number of a function that a start accepts
-pub pin-small : (s : Shape) (u : Endpoint) → Ready s u → pinNumber (registers u) ≤ 4
-unfolding badHeader pinNumber
-pin-small s u k =
-    let c : List ℕ = u .function .config in
-    ltb-false 4 (byte c 0x3d) (neither (not (eqb (byte c 0x0e % 128) 0)) (ltb 4 (byte c 0x3d)) (accepts (givenOf u) (k .start) .header) .1)
 
 -- a test b of the function, its shape s, and the level that the wire should have
 module _ (w : World) (b : Bool) (s : Shape) (e : b ≡ soundEndpoint (shape (w .endpoint)) (w .endpoint)) (z : s ≡ shape (w .endpoint)) where

@@ -8,7 +8,7 @@ ghost use Rattle.vectors.specs.Given.{regs, FitShape};
 ghost use Rattle.model.specs.World.{endpointOf, worldOf};
 ghost use Rattle.model.specs.Ready.{Ready};
 ghost use Rattle.card.specs.Outcomes.{after, settleOf};
-ghost use Rattle.wire.specs.Wires.{owedOf, wiring};
+ghost use Rattle.wire.specs.Wires.{wiring, withLevel};
 use crate::outcome::Outcome;
 use crate::outcome::accepted;
 use crate::outcome::refused;
@@ -39,7 +39,7 @@ pub fn wiring(config: &[u8; 256], line: bool, wire: bool, s: Shape) -> Wiring
 // The wire goes to the level that it should have by the registers.
 pub fn settle_wire(config: &[u8; 256], line: bool, wire: bool, s: Shape) -> Wired
     requires { ⌜ FitShape s ⌝ }
-    ensures { λ r. ⌜ ((t : List ℕ) → (r .wiring .wire ≡ wireDue s line (regs (now (config .entry)) t)) × (r .owed ≡ owedOf wire (wireDue s line (regs (now (config .entry)) t)))) ⌝ }
+    ensures { λ r. ⌜ ((t : List ℕ) → r ≡ withLevel (wiring line wire (modeOf s (regs (now (config .entry)) t)) (pinNumber (regs (now (config .entry)) t)) (commandBit (regs (now (config .entry)) t) 10)) (wireDue s line (regs (now (config .entry)) t))) ⌝ }
 {
     let before = wiring(config, line, wire, s);
     let mode = before.mode;

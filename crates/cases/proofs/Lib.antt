@@ -1,2 +1,7 @@
-pub mod Front
-pub mod MatchLaws
+mod BufferLaws
+mod CaseLaws
+mod ConfigLaws
+mod DecodeLaws
+mod Front
+mod MatchLaws
+mod PlayLaws

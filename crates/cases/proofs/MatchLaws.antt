@@ -1,45 +1,96 @@
--- Two numbers tell an answer, and equal bytes have equal counts. Assumes nothing.
-use mathlib.Core.Path.{_≡_, refl, sym, ap, subst, _∙_}
-use mathlib.Core.Bool.{Bool, true, false}
-use mathlib.Core.List.{List}
-use Prim.Native.Nat.{ℕ, zero, suc}
+-- Comparing an outcome with what it should be. Assumes nothing.
+use mathlib.Core.Path.{_≡_, refl, sym, ap, ap₂, subst, _∙_}
+use mathlib.Core.Bool.{Bool, true, false, not, false≢true}
+use mathlib.Core.List.{List, [], _∷_, _++_}
+use Prim.Native.Nat.{ℕ, _-_, _≤_, min}
+use native.Mathlib.Omega.{arith}
 use lib.Dec.{eqb}
-use lib.ListN.{length, take}
-use borrow.Author.Tests.{eq-eqb, eqb-true}
+use lib.ListN.{length, take, drop, take-append-drop, length-append}
+use lib.Seq.{take-at, drop-at}
+use borrow.Author.Tests.{eq-eqb, ne-eqb, eqb-true, not-true, not-false}
+use Rattle.words.specs.Lists.{same}
+use Rattle.words.specs.Writers.{over}
+use Rattle.words.proofs.BoolLaws.{same-test}
+use Rattle.words.proofs.ListLaws.{same-true, same-refl}
 use Rattle.model.specs.declared.Answer.{Answer}
-use Rattle.model.specs.declared.Answer.the-variants.{Refused, Done, Value, Sent, Held, Merged, Lost}
-use Rattle.cases.specs.Kinds.{kindOf, detailOf}
+use Rattle.model.specs.Play.{kindOf, detailOf, sameAnswer, right}
+use Rattle.card.specs.declared.outcome.Outcome.{Outcome}
+use Rattle.card.specs.Outcomes.{after}
+use Rattle.cases.specs.declared.cases_limits.Saved.{Saved}
+use Rattle.cases.specs.Runs.{sameSaved}
+use Rattle.cases.proofs.BufferLaws.{lent-rest, to-end}
 
-unfoldable answerFrom : ℕ → ℕ → Answer
-answerFrom zero d = Refused d
-answerFrom (suc zero) d = Done
-answerFrom (suc (suc zero)) d = Value d
-answerFrom (suc (suc (suc zero))) d = Sent
-answerFrom (suc (suc (suc (suc zero)))) d = Held
-answerFrom (suc (suc (suc (suc (suc zero))))) d = Merged
-answerFrom (suc (suc (suc (suc (suc (suc n)))))) d = Lost
+-- ---- answers
 
-back : (a : Answer) → answerFrom (kindOf a) (detailOf a) ≡ a
-unfolding answerFrom kindOf detailOf
-back (Refused n) = refl
-back Done = refl
-back (Value x) = refl
-back Sent = refl
-back Held = refl
-back Merged = refl
-back Lost = refl
+module _ (a b : Answer) (k l : ℕ) (ek : k ≡ kindOf a) (el : l ≡ kindOf b) where
+  pub other-kind : (k ≡ l → ⊥) → false ≡ sameAnswer a b
+  unfolding sameAnswer
+  other-kind n = rw (ne-eqb (kindOf a) (kindOf b) (λ q. n (ek ∙ q ∙ sym el)))
 
-pub same-two : (a b : Answer) → kindOf a ≡ kindOf b → detailOf a ≡ detailOf b → a ≡ b
-same-two a b e f =
-    sym (back a)
-    ∙ ap (λ (k : ℕ). answerFrom k (detailOf a)) e
-    ∙ ap (λ (d : ℕ). answerFrom (kindOf b) d) f
-    ∙ back b
+  pub same-kind : (x y : ℕ) → k ≡ l → x ≡ detailOf a → y ≡ detailOf b → eqb x y ≡ sameAnswer a b
+  unfolding sameAnswer
+  same-kind x y q ex ey = rw (eq-eqb (kindOf a) (kindOf b) (sym ek ∙ q ∙ el), ex, ey)
 
--- a test of both numbers is a test of the answers
-pub tells : (a b : Answer) → kindOf a ≡ kindOf b → (eqb (detailOf a) (detailOf b) ≡ true → a ≡ b) × (a ≡ b → eqb (detailOf a) (detailOf b) ≡ true)
-tells a b e = (λ t. same-two a b e (eqb-true _ _ t), λ q. eq-eqb _ _ (ap detailOf q))
+-- ---- bytes
 
--- the bytes compared are all that were expected
-pub fronts : (n : ℕ) (out bytes : List ℕ) → n ≡ length (take n out) → take n out ≡ bytes → take (length bytes) out ≡ bytes
-fronts n out bytes e q = subst (λ (k : ℕ). take k out ≡ bytes) (e ∙ ap length q) q
+-- a comparison of bytes
+abbrev pub Tells : Bool → List ℕ → List ℕ → Type 0
+Tells b l m = (b ≡ true → l ≡ m) × (l ≡ m → b ≡ true)
+
+pub tells-same : (b : Bool) (l m : List ℕ) → Tells b l m → b ≡ same l m
+tells-same b l m t = same-test b (same l m) (λ e. subst (λ (x : List ℕ). same l x ≡ true) (t .0 e) (same-refl l)) (λ e. t .1 (same-true l m e))
+
+-- ---- an outcome
+
+module _ (o : Outcome) (out fresh bytes : List ℕ) (answer : Answer) (b : Bool) (eb : b ≡ sameAnswer (o .answer) answer) where
+  pub other-answer : not b ≡ true → false ≡ right (after o [] [] out) answer bytes fresh
+  unfolding right
+  other-answer n = rw (sym eb ∙ not-true b n)
+
+  module _ (nb : not b ≡ false) where
+    answered : sameAnswer (o .answer) answer ≡ true
+    answered = sym eb ∙ not-false b nb
+
+    pub other-count : (o .count ≡ length bytes → ⊥) → false ≡ right (after o [] [] out) answer bytes fresh
+    unfolding right
+    other-count n = rw (answered, ne-eqb (o .count) (length bytes) n)
+
+    module _ (ec : o .count ≡ length bytes) (n : ℕ) (en : n ≡ min (o .count) (length out)) (c : Bool) (tc : Tells c (take n out) bytes) where
+      by-output : right (after o [] [] out) answer bytes fresh ≡ same out (over bytes fresh)
+      unfolding right
+      by-output = rw (answered, eq-eqb (o .count) (length bytes) ec)
+
+      counted : out ≡ over bytes fresh → n ≡ length bytes
+      counted q = omega (arith, ap length q ∙ length-append bytes (drop (length bytes) fresh))
+
+      front : out ≡ over bytes fresh → take n out ≡ bytes
+      front q = ap (λ (l : List ℕ). take n l) q ∙ take-at bytes (drop (length bytes) fresh) n (sym (counted q))
+
+      pub other-bytes : not c ≡ true → false ≡ right (after o [] [] out) answer bytes fresh
+      other-bytes m =
+          same-test false _ (λ e. absurd (false≢true e)) (λ e. absurd (false≢true (sym (not-true c m) ∙ tc .1 (front (same-true _ _ (sym by-output ∙ e))))))
+
+      pub right-bytes : not c ≡ false → (k : ℕ) → k ≡ min (o .count) (length fresh) → (d : Bool) → Tells d (take (length out - n) (drop n out)) (take (length fresh - k) (drop k fresh)) → d ≡ right (after o [] [] out) answer bytes fresh
+      right-bytes m k ek d td =
+          let f : take n out ≡ bytes = tc .0 (not-false c m) in
+          let g : drop k fresh ≡ drop (length bytes) fresh = lent-rest k (length bytes) fresh (ek ∙ ap (λ (j : ℕ). min j (length fresh)) ec) in
+          tells-same d out (over bytes fresh) (
+            (λ e. sym (take-append-drop n out) ∙ ap₂ _++_ f (sym (to-end n out) ∙ td .0 e ∙ to-end k fresh ∙ g)),
+            (λ q.
+                td .1
+                (to-end n out ∙ ap (λ (l : List ℕ). drop n l) q ∙ drop-at bytes (drop (length bytes) fresh) n (sym (counted q)) ∙ sym g
+                ∙ sym (to-end k fresh))),
+          )
+          ∙ sym by-output
+
+-- ---- images
+
+module _ (a b : Saved) where
+  pub other-first : (a .count ≡ 294 → ⊥) → false ≡ sameSaved a b
+  other-first n = rw (ne-eqb (a .count) 294 n)
+
+  pub other-second : a .count ≡ 294 → (b .count ≡ 294 → ⊥) → false ≡ sameSaved a b
+  other-second e n = rw (eq-eqb (a .count) 294 e, ne-eqb (b .count) 294 n)
+
+  pub same-saved : a .count ≡ 294 → b .count ≡ 294 → (c : Bool) → Tells c (a .bytes) (b .bytes) → c ≡ sameSaved a b
+  same-saved e f c t = rw (eq-eqb (a .count) 294 e, eq-eqb (b .count) 294 f) (tells-same c (a .bytes) (b .bytes) t)

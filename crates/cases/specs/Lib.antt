@@ -1,3 +1,3 @@
+pub mod Decoded
 pub mod Digits
-pub mod Kinds
-pub mod Shows
+pub mod Runs

@@ -1,14 +1,18 @@
 // Starting the card of a case.
+ghost use mathlib.Core.Path.{_≡_};
+ghost use Prim.Native.Nat.{_≤_};
+ghost use Rattle.model.specs.Play.{begun};
+ghost use Rattle.cases.specs.Runs.{seen};
 use crate::buffers::pending_length;
 use crate::buffers::table_length;
-use crate::print::bytes;
-use crate::print::decimal;
-use crate::print::hex8;
-use crate::print::hex16;
-use crate::print::hex32;
-use crate::print::text;
+use crate::bytes;
+use crate::decimal;
+use crate::hex8;
+use crate::hex16;
+use crate::hex32;
 use crate::run::Run;
 use crate::run::judge;
+use crate::text;
 use model::Answer;
 
 // The requester ID of every case.
@@ -39,7 +43,10 @@ fn print_start(sizes: [u32; 6], events: u16) {
 }
 
 // A start over buffers for `vectors` vectors, and the answer that it should give.
-pub fn start(config: [u8; 256], sizes: [u32; 6], events: u16, vectors: u8, answer: Answer) -> Run {
+pub fn start(config: [u8; 256], sizes: [u32; 6], events: u16, vectors: u8, answer: Answer) -> Run
+    requires { ⌜ vectors ≤ 10 ⌝ }
+    ensures { λ r. ⌜ seen r ≡ begun config sizes events vectors answer ⌝ }
+{
     print_config(config);
     print_start(sizes, events);
     let mut table = [0xee; 160];
@@ -62,6 +69,5 @@ pub fn start(config: [u8; 256], sizes: [u32; 6], events: u16, vectors: u8, answe
         pending,
         good: true,
     };
-    let out = [0xee; 64];
-    judge(run, o, &out, answer, b"")
+    judge(run, o, b"", b"", answer, b"", 8)
 }

@@ -1,16 +1,21 @@
 // The calls of the cases: each prints a line with its arguments and its answer.
+ghost use mathlib.Core.Path.{_≡_};
+ghost use Prim.Native.Nat.{_≤_};
+ghost use Rattle.model.specs.Play.{played};
+ghost use Rattle.model.specs.Cases.{writes, stores, raises, drives, readsConfig, readsBar};
+ghost use Rattle.cases.specs.Runs.{seen};
 use crate::buffers::pending_length;
 use crate::buffers::table_length;
-use crate::print::decimal;
-use crate::print::number;
-use crate::print::text;
+use crate::buffers::within;
+use crate::decimal;
+use crate::number;
 use crate::run::Run;
 use crate::run::judge;
-use crate::run::judge_read;
-use crate::run::print_answer;
-use crate::run::within;
-use card::outcome::Outcome;
+use crate::text;
 use model::Answer;
+
+// What every output holds before a call.
+const FRESH: [u8; 64] = [0xee; 64];
 
 fn print_write(width: u8, value: u64) {
     text(b", ");
@@ -21,14 +26,16 @@ fn print_write(width: u8, value: u64) {
 }
 
 // A configuration write that should send these packets.
-pub fn config_write(run: Run, offset: u16, width: u8, value: u32, packets: &[u8]) -> Run {
+pub fn config_write(run: Run, offset: u16, width: u8, value: u32, packets: &[u8]) -> Run
+    ensures { λ r. ⌜ seen r ≡ played (seen run) (writes offset width value (now (packets .entry))) ⌝ }
+{
     text(b"  configuration write at ");
     number(offset as u64, 1);
     print_write(width, value as u64);
     let card = run.card;
     let table = run.table;
     let mut pending = run.pending;
-    let mut out = [0xee; 64];
+    let mut out = FRESH;
     let t = table_length(run.vectors, &table);
     let p = pending_length(run.vectors, &pending);
     let o = config_access::config_write::config_write(
@@ -42,18 +49,20 @@ pub fn config_write(run: Run, offset: u16, width: u8, value: u32, packets: &[u8]
     );
     let mut after = run;
     after.pending = pending;
-    judge(after, o, &out, Answer::Done, packets)
+    judge(after, o, &out, &FRESH, Answer::Done, packets, 8)
 }
 
 // A write of four bytes to BAR 0 that should send these packets.
-pub fn bar_write(run: Run, offset: u32, value: u64, packets: &[u8]) -> Run {
+pub fn bar_write(run: Run, offset: u32, value: u64, packets: &[u8]) -> Run
+    ensures { λ r. ⌜ seen r ≡ played (seen run) (stores offset value (now (packets .entry))) ⌝ }
+{
     text(b"  BAR 0 write at ");
     number(offset as u64, 2);
     print_write(4, value);
     let card = run.card;
     let mut table = run.table;
     let mut pending = run.pending;
-    let mut out = [0xee; 64];
+    let mut out = FRESH;
     let t = table_length(run.vectors, &table);
     let p = pending_length(run.vectors, &pending);
     let o = bar_access::bar_write::bar_write(
@@ -69,11 +78,14 @@ pub fn bar_write(run: Run, offset: u32, value: u64, packets: &[u8]) -> Run {
     let mut after = run;
     after.table = table;
     after.pending = pending;
-    judge(after, o, &out, Answer::Done, packets)
+    judge(after, o, &out, &FRESH, Answer::Done, packets, 8)
 }
 
-// An event over an output of `room` bytes, at most 64.
-pub fn event(run: Run, number: u16, room: usize, answer: Answer, packets: &[u8]) -> Run {
+// An event over an output of `room` bytes.
+pub fn event(run: Run, number: u16, room: usize, answer: Answer, packets: &[u8]) -> Run
+    requires { ⌜ room ≤ 64 ⌝ }
+    ensures { λ r. ⌜ seen r ≡ played (seen run) (raises number room answer (now (packets .entry))) ⌝ }
+{
     text(b"  event ");
     decimal(number as u64);
     text(b", output of ");
@@ -82,18 +94,26 @@ pub fn event(run: Run, number: u16, room: usize, answer: Answer, packets: &[u8])
     let card = run.card;
     let table = run.table;
     let mut pending = run.pending;
-    let mut out = [0xee; 64];
+    let mut space = FRESH;
     let t = table_length(run.vectors, &table);
     let p = pending_length(run.vectors, &pending);
-    let n = within(room, &out);
-    let o = interrupt::event::event(card, &table[..t], &mut pending[..p], number, &mut out[..n]);
+    let n = within(room, &space);
+    let o = interrupt::event::event(
+        card,
+        &table[..t],
+        &mut pending[..p],
+        number,
+        &mut space[..n],
+    );
     let mut after = run;
     after.pending = pending;
-    judge(after, o, &out, answer, packets)
+    judge(after, o, &space[..n], &FRESH[..n], answer, packets, 8)
 }
 
 // A change of the line that should send this packet.
-pub fn line(run: Run, level: bool, packet: &[u8]) -> Run {
+pub fn line(run: Run, level: bool, packet: &[u8]) -> Run
+    ensures { λ r. ⌜ seen r ≡ played (seen run) (drives level (now (packet .entry))) ⌝ }
+{
     if level {
         text(b"  line high: ");
     } else {
@@ -102,15 +122,17 @@ pub fn line(run: Run, level: bool, packet: &[u8]) -> Run {
     let card = run.card;
     let table = run.table;
     let pending = run.pending;
-    let mut out = [0xee; 64];
+    let mut out = FRESH;
     let t = table_length(run.vectors, &table);
     let p = pending_length(run.vectors, &pending);
     let o = interrupt::line::line(card, &table[..t], &pending[..p], level, &mut out);
-    judge(run, o, &out, Answer::Done, packet)
+    judge(run, o, &out, &FRESH, Answer::Done, packet, 8)
 }
 
 // A read of the two bytes of Status.
-pub fn read_status(run: Run, value: u64) -> Run {
+pub fn read_status(run: Run, value: u64) -> Run
+    ensures { λ r. ⌜ seen r ≡ played (seen run) (readsConfig 6 2 value) ⌝ }
+{
     text(b"  configuration read at 06h, 2 bytes: ");
     let card = run.card;
     let table = run.table;
@@ -118,11 +140,13 @@ pub fn read_status(run: Run, value: u64) -> Run {
     let t = table_length(run.vectors, &table);
     let p = pending_length(run.vectors, &pending);
     let o = config_access::config_read::config_read(card, &table[..t], &pending[..p], 6, 2);
-    judge_read(run, o, 2, value)
+    judge(run, o, b"", b"", Answer::Value(value), b"", 2)
 }
 
 // A read of the eight bytes at 1000h of BAR 0.
-pub fn read_pending(run: Run, value: u64) -> Run {
+pub fn read_pending(run: Run, value: u64) -> Run
+    ensures { λ r. ⌜ seen r ≡ played (seen run) (readsBar 0x1000 value) ⌝ }
+{
     text(b"  BAR 0 read at 1000h, 8 bytes: ");
     let card = run.card;
     let table = run.table;
@@ -130,21 +154,5 @@ pub fn read_pending(run: Run, value: u64) -> Run {
     let t = table_length(run.vectors, &table);
     let p = pending_length(run.vectors, &pending);
     let o = bar_access::bar_read::bar_read(card, &table[..t], &pending[..p], 0, 0x1000, 8);
-    judge_read(run, o, 8, value)
-}
-
-// The image of a card: how many bytes of the output it takes, 0 where the save is refused.
-pub fn save(run: Run, out: &mut [u8]) -> usize {
-    text(b"  save, output of ");
-    decimal(out.len() as u64);
-    text(b" bytes: ");
-    let card = run.card;
-    let table = run.table;
-    let pending = run.pending;
-    let t = table_length(run.vectors, &table);
-    let p = pending_length(run.vectors, &pending);
-    let o = snapshot::save::save(card, &table[..t], &pending[..p], out);
-    let given = o.answer;
-    print_answer(given, 8);
-    o.count
+    judge(run, o, b"", b"", Answer::Value(value), b"", 8)
 }

@@ -2,13 +2,8 @@
 ghost use Prim.Native.Nat.{_+_, _≤_};
 ghost use mathlib.Core.Path.{_≡_};
 ghost use lib.ListN.{length};
-ghost use Rattle.io.specs.Counts.{Counts};
-ghost use Rattle.cases.specs.Shows.{Shows};
-use crate::print::bytes;
-use crate::print::decimal;
-use crate::print::hex16;
-use crate::print::hex32;
-use crate::print::text;
+ghost use Rattle.cases.specs.Decoded.{asMessage, asWire, decodedWire, decoded};
+ghost use Rattle.cases.specs.Decoded.{high16 as Decoded·high16, high32 as Decoded·high32};
 
 // A memory write of one word.
 pub struct Message {
@@ -32,7 +27,7 @@ pub enum Packet {
 }
 
 fn wide(x: u8) -> u16
-    ensures { λ r. ⌜ r ≤ 255 ⌝ }
+    ensures { λ r. ⌜ (r ≡ x) × (r ≤ 255) ⌝ }
 {
     x as u16
 }
@@ -40,19 +35,21 @@ fn wide(x: u8) -> u16
 // The numbers of two and four bytes from place `at` on, the highest byte first.
 fn high16(s: &[u8], at: usize) -> u16
     requires { ⌜ at + 2 ≤ length (now s) ⌝ }
+    ensures { λ r. ⌜ r ≡ Decoded·high16 (now (s .entry)) at ⌝ }
 {
     wide(s[at]) * 256 + wide(s[at + 1])
 }
 
 fn high32(s: &[u8], at: usize) -> u32
     requires { ⌜ at + 4 ≤ length (now s) ⌝ }
+    ensures { λ r. ⌜ r ≡ Decoded·high32 (now (s .entry)) at ⌝ }
 {
     (high16(s, at) as u32) * 65536 + (high16(s, at + 2) as u32)
 }
 
 // The message with these fields, if the bytes are its bytes.
 fn as_message(s: &[u8], m: Message) -> Packet
-    ensures { λ r. ⌜ Shows r (now (s .entry)) ⌝ }
+    ensures { λ r. ⌜ r ≡ asMessage (now (s .entry)) m ⌝ }
 {
     let mut again = [0u8; 20];
     let n = tlp::put_message(&mut again, m.requester, m.upper, m.address, m.value);
@@ -65,7 +62,7 @@ fn as_message(s: &[u8], m: Message) -> Packet
 // The wire's packet with this pin and level, if the bytes are its bytes.
 fn as_wire(s: &[u8], l: Level) -> Packet
     requires { ⌜ l .pin ≤ 4 ⌝ }
-    ensures { λ r. ⌜ Shows r (now (s .entry)) ⌝ }
+    ensures { λ r. ⌜ r ≡ asWire (now (s .entry)) l ⌝ }
 {
     let mut again = [0u8; 16];
     let n = tlp::put_wire(&mut again, l.requester, l.pin, l.active);
@@ -78,7 +75,7 @@ fn as_wire(s: &[u8], l: Level) -> Packet
 // The fields of a wire's packet: the code is 1Fh + pin, or 23h + pin.
 fn decode_wire(s: &[u8]) -> Packet
     requires { ⌜ 16 ≤ length (now s) ⌝ }
-    ensures { λ r. ⌜ Shows r (now (s .entry)) ⌝ }
+    ensures { λ r. ⌜ r ≡ decodedWire (now (s .entry)) ⌝ }
 {
     let requester = high16(s, 4);
     let code = s[7];
@@ -106,7 +103,7 @@ fn decode_wire(s: &[u8]) -> Packet
 
 // The packet that the bytes are. Its fields are read off, then compared with the packet that they make.
 pub fn decode(s: &[u8]) -> Packet
-    ensures { λ r. ⌜ Shows r (now (s .entry)) ⌝ }
+    ensures { λ r. ⌜ r ≡ decoded (now (s .entry)) ⌝ }
 {
     if s.len() < 16 {
         return Packet::Other;
@@ -140,68 +137,4 @@ pub fn decode(s: &[u8]) -> Packet
             value,
         },
     )
-}
-
-fn print_level(l: Level) {
-    text(b"pin ");
-    decimal(l.pin as u64);
-    if l.active {
-        text(b" asserted, requester ");
-    } else {
-        text(b" deasserted, requester ");
-    }
-    hex16(l.requester);
-    text(b"h\n");
-}
-
-fn print_message(m: Message) {
-    text(b"message to ");
-    hex32(m.upper);
-    hex32(m.address);
-    text(b"h, data ");
-    hex32(m.value);
-    text(b"h, requester ");
-    hex16(m.requester);
-    text(b"h\n");
-}
-
-// A packet: a line with its bytes, and one with what they mean.
-fn print_packet(s: &[u8]) {
-    text(b"    ");
-    bytes(s);
-    text(b"\n    ");
-    let packet = decode(s);
-    match packet {
-        Packet::Message(m) => print_message(m),
-        Packet::Wire(l) => print_level(l),
-        Packet::Other => text(b"no packet of document 01\n"),
-    }
-}
-
-// How many bytes the first packet has: 20 where its first byte is 60h, else 16, and at most all.
-fn packet_length(s: &[u8]) -> usize
-    requires { ⌜ 1 ≤ length (now s) ⌝ }
-    ensures { λ r. ⌜ (1 ≤ r) × Counts r (now (s .entry)) ⌝ }
-{
-    if s[0] == 0x60 {
-        if 20 <= s.len() {
-            return 20;
-        }
-        return s.len();
-    }
-    if 16 <= s.len() {
-        return 16;
-    }
-    s.len()
-}
-
-// Packets that stand one after another.
-pub fn print_packets(s: &[u8]) {
-    let mut at = 0;
-    while at < s.len() {
-        let rest = &s[at..];
-        let n = packet_length(rest);
-        print_packet(&rest[..n]);
-        at += n;
-    }
 }

@@ -1,3 +1,2 @@
-pub mod BoundsFor
 pub mod ConfigFor
 pub mod ReadFor

@@ -3,10 +3,7 @@ use mathlib.Core.Path.{_≡_, refl, sym, ap, _∙_}
 use mathlib.Core.Bool.{Bool, true, false, not}
 use mathlib.Core.List.{List, []}
 use Prim.Native.Nat.{ℕ, _+_, _≤_}
-use native.Mathlib.Omega.{arith}
-use Rattle.words.specs.Lists.{firstOf}
 use Rattle.words.specs.Bytes.{number}
-use Rattle.words.proofs.BoolLaws.{row-passes, row-refuses}
 use Rattle.model.specs.declared.Answer.the-variants.{Value}
 use Rattle.model.specs.declared.Card.{Card}
 use Rattle.model.specs.declared.Shape.{Shape}
@@ -14,8 +11,8 @@ use Rattle.model.specs.Shape.{formOf}
 use Rattle.model.specs.World.{worldOf, endpointOf}
 use Rattle.model.specs.Registers.{storedZero, shown}
 use Rattle.model.specs.Sound.{sound, shape, zeroBits}
-use Rattle.model.specs.Calls.{configRead, rows, next, sends, answerOf, outputOf, badConfig, step}
-use Rattle.model.proofs.CallLaws.{step-accepted}
+use Rattle.model.specs.Calls.{configRead, badConfig, step}
+use Rattle.model.proofs.AccessCalls.{config-reads, config-refused, config-value}
 use Rattle.model.proofs.FitLaws.{sound-fit}
 use Rattle.model.proofs.SoundLaws.{is-sound}
 use Rattle.registers.proofs.AccessLaws.{config-access}
@@ -29,8 +26,8 @@ use Rattle.card.proofs.CallsFor.{refused-row}
 
 module _ (card : Card) (t p : List ℕ) (o n : ℕ) (b : Bool) (e : b ≡ sound (worldOf card t p)) (h : not b ≡ false) (g : Bool) (d : g ≡ badConfig o n) where
   pub config-read-refused : (r : Outcome) → g ≡ true → r ≡ refusedWith card 3 → after r t p [] ≡ step (worldOf card t p) (configRead o n)
-  unfolding outputOf rows
-  config-read-refused r f q = refused-row card t p [] (configRead o n) refl b e h 3 r (row-refuses 3 [] (sym d ∙ f)) refl q
+  config-read-refused r f q =
+      refused-row card t p (configRead o n) b e h 3 r (config-refused (worldOf card t p .endpoint) o n (configRead o n) config-reads (sym d ∙ f)) refl q
 
   module _ (f : g ≡ false) (s : Shape) (z : s ≡ shape (worldOf card t p .endpoint)) where
     pub config-read-asks : (o + n ≤ 256) × (n ≤ 4) × (s .msi .at + formOf s .size ≤ 256) × (zeroBits (storedZero s) (card .function .config) ≡ true)
@@ -41,10 +38,9 @@ module _ (card : Card) (t p : List ℕ) (o n : ℕ) (b : Bool) (e : b ≡ sound 
 
     pub config-read-value : (r : Outcome) (x : ℕ) → x ≡ number (shown s (endpointOf (card .function) [] [])) o n → r ≡ acceptedWith card (Value x) 0
         → after r t p [] ≡ step (worldOf card t p) (configRead o n)
-    unfolding outputOf rows next sends answerOf firstOf
     config-read-value r x v q =
         ap (λ (x : Outcome). after x t p []) q
         ∙ ap (λ (x : ℕ). after (acceptedWith card (Value x) 0) t p [])
         (v ∙ value-function s (endpointOf (card .function) [] []) (endpointOf (card .function) t p) refl o n
         ∙ ap (λ (s : Shape). number (shown s (endpointOf (card .function) t p)) o n) z)
-        ∙ sym (step-accepted (worldOf card t p) (configRead o n) (is-sound-now (worldOf card t p) b e h) (row-passes 3 [] (sym d ∙ f)) (omega arith))
+        ∙ sym (config-value (worldOf card t p) o n (is-sound-now (worldOf card t p) b e h) (sym d ∙ f))

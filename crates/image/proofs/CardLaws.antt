@@ -4,16 +4,15 @@ use mathlib.Core.Bool.{Bool, true, false}
 use mathlib.Core.List.{List, [], _++_}
 use Prim.Native.Nat.{ℕ, _+_, _*_, _≤_}
 use native.Mathlib.Omega.{arith}
-use lib.ListN.{length, take, drop, length-append}
+use lib.ListN.{length, length-append}
 use mir.Val.{boolByte}
 use Rattle.words.specs.Lists.{join}
-use Rattle.words.specs.Bits.{bit, ofBool}
-use Rattle.words.specs.Bytes.{byte, bytesOf}
+use Rattle.words.specs.Bits.{ofBool}
+use Rattle.words.specs.Bytes.{bytesOf}
 use Rattle.words.proofs.ByteLaws.{length-join32}
 use Rattle.model.specs.declared.Card.{Card}
-use Rattle.model.specs.Shape.{shapeOf, tableBytes}
 use Rattle.model.specs.World.{worldOf}
-use Rattle.model.specs.Image.{mark, flags, cardBytes, imageOf, functionIn, worldIn}
+use Rattle.model.specs.Image.{mark, flags, cardBytes, imageOf, functionIn}
 use Rattle.image.specs.Layout.{numberBytes, imageSize}
 use Rattle.image.specs.Held.{functionFrom}
 
@@ -69,9 +68,3 @@ image-size card table pending z c =
 pub from-start : (l : List ℕ) → functionFrom 0 l ≡ functionIn l
 unfolding functionFrom functionIn
 from-start l = refl
-
--- the card and the two buffers of an image, with a table as long as the shape says
-pub world-held : (l : List ℕ) (n : ℕ) → n ≡ tableBytes (shapeOf (functionIn l .config))
-    → worldOf (record { function = functionIn l; wire = bit (byte l 5) 1 }) (take n (drop 294 l)) (drop n (drop 294 l)) ≡ worldIn l
-unfolding worldIn
-world-held l n e = rw e

@@ -4,28 +4,33 @@ ghost use Rattle.model.specs.Shape.{formOf};
 use model::Form;
 use model::Shape;
 
+// Where the data register is: in the 32-bit forms, and in the 64-bit ones.
+const DATA_32: usize = 0x08;
+
+const DATA_64: usize = 0x0c;
+
 // By control bits 7 (64-bit) and 8 (masks).
 const FORMS: [Form; 4] = [
     Form {
-        message: 0x08,
+        message: DATA_32,
         mask: 0,
         pending: 0,
         size: 10,
     },
     Form {
-        message: 0x0c,
+        message: DATA_64,
         mask: 0,
         pending: 0,
         size: 14,
     },
     Form {
-        message: 0x08,
+        message: DATA_32,
         mask: 0x0c,
         pending: 0x10,
         size: 20,
     },
     Form {
-        message: 0x0c,
+        message: DATA_64,
         mask: 0x10,
         pending: 0x14,
         size: 24,

@@ -1,10 +1,9 @@
 -- A reset by the code and by the definition. Assumes nothing.
-use mathlib.Core.Path.{_≡_, refl, sym, ap, ap₂, _∙_}
+use mathlib.Core.Path.{_≡_, refl, ap₂}
 use mathlib.Core.Bool.{Bool, true, false}
 use mathlib.Core.List.{List}
 use Prim.Native.Nat.{ℕ, _≤_, _<_}
 use lib.ListN.{length}
-use Rattle.words.specs.Lists.{firstOf}
 use Rattle.words.specs.Writers.{Wrote}
 use Rattle.model.specs.declared.Answer.the-variants.{Done}
 use Rattle.model.specs.declared.Card.{Card}
@@ -13,11 +12,12 @@ use Rattle.model.specs.declared.Shape.{Shape}
 use Rattle.model.specs.Fit.{Fit}
 use Rattle.model.specs.Shape.{shapeOf}
 use Rattle.model.specs.World.{World, Endpoint, registers, worldOf, endpointOf}
-use Rattle.model.specs.Release.{pinNumber, wireChange}
+use Rattle.model.specs.Release.{pinNumber}
 use Rattle.model.specs.Start.{started}
 use Rattle.model.specs.Sound.{shape, sound}
-use Rattle.model.specs.Calls.{reset, rows, changed, next, sends, answerOf, outputOf, step}
+use Rattle.model.specs.Calls.{reset, resetEndpoint, step}
 use Rattle.model.proofs.FitLaws.{sound-fit}
+use Rattle.model.proofs.WireCalls as WireCalls
 use Rattle.card.specs.declared.outcome.Outcome.{Outcome}
 use Rattle.wire.specs.declared.Owed.{Owed}
 use Rattle.wire.specs.declared.Wired.{Wired}
@@ -25,15 +25,7 @@ use Rattle.wire.specs.declared.Wiring.{Wiring}
 use Rattle.card.specs.Outcomes.{refusedWith, acceptedWith, after}
 use Rattle.wire.specs.Wires.{owedOf, withLevel, bytesOwed, sizeOf}
 use Rattle.wire.proofs.WireLaws.{wiringOf}
-use Rattle.card.proofs.WireOnly.{WireOnly, wire-short, wire-done}
-
-pub reset-output : (out : List ℕ) → outputOf (reset out) ≡ out
-unfolding outputOf
-reset-output out = refl
-
-reset-passed : (u : Endpoint) (out : List ℕ) → firstOf (rows u (reset out)) ≡ 0
-unfolding rows firstOf
-reset-passed u out = refl
+use Rattle.card.proofs.WireOnly.{wire-short, wire-done}
 
 -- the state of the wire v, and what it becomes
 pub reset-wire : (card : Card) (t p : List ℕ) (s : Shape) (v : Wiring) (w : Wired) → v ≡ wiringOf s (card .function .line) (card .wire) (registers (worldOf card t p .endpoint)) → w ≡ withLevel v false
@@ -47,29 +39,14 @@ module _ (card : Card) (t p out : List ℕ) (k : sound (worldOf card t p) ≡ tr
   abbrev w : World
   w = worldOf card t p
 
-  reset-sends : sends w (reset out) ≡ wireChange (card .function .requester) (registers (w .endpoint)) (card .wire) false
-  unfolding sends
-  reset-sends = refl
-
-  reset-world : next w (reset out) ≡ record { endpoint = started (card .function .config) (card .function .sizes) (card .function .events) (card .function .requester); wire = false }
-  unfolding next changed
-  reset-world = refl
-
-  reset-answer : Done ≡ answerOf (w .endpoint) (reset out)
-  unfolding answerOf
-  reset-answer = refl
-
-  reset-only : WireOnly w (reset out) false
-  reset-only = record { passed = reset-passed (w .endpoint) out; sends = reset-sends; answer = sym reset-answer }
-
   module _ (o : Owed) (eo : o ≡ owedOf (card .wire) false) where
     pub reset-short : (n : ℕ) (r : Outcome) → n ≡ sizeOf o → length out < n → r ≡ refusedWith card 6 → after r t p out ≡ step w (reset out)
-    reset-short = wire-short card t p out (reset out) (reset-output out) false k reset-only o eo
+    reset-short = wire-short card t p (reset out) (resetEndpoint (w .endpoint)) false k (WireCalls.reset-wire w out) o eo
 
     pub reset-done : (n pin at : ℕ) (o₁ t′ p′ : List ℕ) (l : Bool) (g : Function) (r : Outcome) → n ≡ sizeOf o → n ≤ length out → pin ≡ pinNumber (registers (w .endpoint))
         → Wrote (bytesOwed o (card .function .requester) pin) out at o₁ → l ≡ false
         → endpointOf g t′ p′ ≡ started (card .function .config) (card .function .sizes) (card .function .events) (card .function .requester)
         → r ≡ acceptedWith (record { function = g; wire = l }) Done at → after r t′ p′ o₁ ≡ step w (reset out)
     reset-done n pin at o₁ t′ p′ l g r en h ep a el eg er =
-        wire-done card t p out (reset out) (reset-output out) false k reset-only o eo n pin at t′ p′ o₁ (record { function = g; wire = l }) r en h ep a
-        (ap₂ (λ (u : Endpoint) (b : Bool). record { endpoint = u; wire = b }) eg el ∙ sym reset-world) er
+        wire-done card t p (reset out) (resetEndpoint (w .endpoint)) false k (WireCalls.reset-wire w out) o eo n pin at t′ p′ o₁ (record { function = g; wire = l }) r en h ep a
+        (ap₂ (λ (u : Endpoint) (b : Bool). record { endpoint = u; wire = b }) eg el) er

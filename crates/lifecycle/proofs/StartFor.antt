@@ -2,29 +2,24 @@
 use mathlib.Core.Path.{_≡_, sym, ap, _∙_}
 use mathlib.Core.Bool.{false}
 use mathlib.Core.List.{List, []}
-use Prim.Native.Nat.{ℕ, _*_}
-use lib.Dec.{eqb}
+use Prim.Native.Nat.{ℕ}
 use lib.ListN.{length, replicate}
 use borrow.Author.Tests.{ne-eqb}
 use Rattle.model.specs.declared.Answer.the-variants.{Done}
 use Rattle.model.specs.declared.Card.{Card}
 use Rattle.model.specs.declared.Function.{Function}
 use Rattle.model.specs.declared.Shape.{Shape}
-use Rattle.model.specs.Shape.{shapeOf, tableBytes}
+use Rattle.model.specs.Shape.{shapeOf}
 use Rattle.model.specs.Registers.{startedConfig, startedTable}
 use Rattle.model.specs.World.{Endpoint, functionOf, endpointOf, zeroFunction}
 use Rattle.model.specs.Start.{Given, startRefusal, started}
 use Rattle.model.specs.Fit.{Fit}
 use Rattle.model.specs.Calls.{accepted, startOf}
-use Rattle.model.proofs.Refusals.{answered-yes, answered-no}
+use Rattle.model.proofs.StartCalls as StartCalls
 use Rattle.model.proofs.SoundLaws.{accepts}
 use Rattle.model.proofs.FitLaws.{fit}
 use Rattle.card.specs.declared.outcome.Outcome.{Outcome}
 use Rattle.card.specs.Outcomes.{refusedWith, acceptedWith, zeroCard, after}
-
-pub table-room : (s : Shape) (t p : ℕ) → Fit s t p → t ≡ 16 * s .msix .vectors
-unfolding tableBytes
-table-room s t p f = f .table
 
 pub started-is : (config sizes : List ℕ) (events requester : ℕ) (s : Shape) (t p config′ t′ p′ : List ℕ) → s ≡ shapeOf config → Fit s (length t) (length p)
     → config′ ≡ startedConfig s config → t′ ≡ startedTable (s .msix .vectors) → p′ ≡ replicate (length p) 0
@@ -40,14 +35,11 @@ start-fits g n s e h z = rw z (fit g (accepts g (sym e ∙ h)))
 -- refused: the buffers t and p as they were
 pub start-refused : (g : Given) (n : ℕ) (t p : List ℕ) (card : Card) (r : Outcome) → n ≡ startRefusal g → (n ≡ 0 → ⊥) → card ≡ zeroCard → r ≡ refusedWith card n
     → after r t p [] ≡ startOf (endpointOf zeroFunction t p) g
-unfolding startOf
-start-refused g n t p card r e h k q =
-    rw (q, k, e) (sym (answered-no (startRefusal g) _ _ (ap (λ (m : ℕ). eqb m 0) (sym e) ∙ ne-eqb n 0 h)))
+start-refused g n t p card r e h k q = rw (q, k) (sym (StartCalls.start-refused (endpointOf zeroFunction t p) g n (sym e) (ne-eqb n 0 h)))
 
 -- accepted, with the function f and the buffers t′ and p′
 pub start-accepted : (g : Given) (n : ℕ) (u : Endpoint) (f : Function) (t′ p′ : List ℕ) (r : Outcome) → n ≡ startRefusal g → n ≡ 0
     → endpointOf f t′ p′ ≡ started (g .config) (g .sizes) (g .events) (g .requester) → r ≡ acceptedWith (record { function = f; wire = false }) Done 0
     → after r t′ p′ [] ≡ startOf u g
-unfolding startOf
 start-accepted g n u f t′ p′ r e h k q =
-    rw q (ap (λ (v : Endpoint). accepted (record { endpoint = v; wire = false }) Done [] []) k ∙ sym (answered-yes (startRefusal g) _ _ (sym e ∙ h)))
+    rw q (ap (λ (v : Endpoint). accepted (record { endpoint = v; wire = false }) Done [] []) k ∙ sym (StartCalls.start-accepted u g (sym e ∙ h)))

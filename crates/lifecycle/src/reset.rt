@@ -1,15 +1,29 @@
 // Reset.
 ghost use mathlib.Core.Path.{_≡_};
+ghost use Prim.Native.Nat.{_≤_};
+ghost use lib.ListN.{length};
+ghost use Rattle.words.specs.Writers.{Wrote};
 ghost use Rattle.model.specs.World.{worldOf};
 ghost use Rattle.model.specs.Calls.{step, reset};
+ghost use Rattle.wire.specs.Wires.{bytesOwed, sizeOf};
 ghost use Rattle.card.specs.Outcomes.{after};
 use card::outcome::Outcome;
 use card::outcome::accepted;
 use card::outcome::refused;
 use model::Answer;
 use model::Card;
+use model::Function;
+use wire::Owed;
 
-// Sends Deassert if the wire is active, then gives the state of a start with the same shape. Waiting vectors send nothing.
+// What a reset sends: the wire's packet. Vectors that wait send nothing.
+fn send(out: &mut [u8], owed: Owed, f: Function, pin: u8) -> usize
+    requires { ⌜ (pin ≤ 4) × (sizeOf owed ≤ length (now out)) ⌝ }
+    ensures { λ r. ⌜ Wrote (bytesOwed owed (f .requester) pin) (now (out .entry)) r (now (out .exit)) ⌝ }
+{
+    wire::put_owed(out, owed, f.requester, pin)
+}
+
+// Sends Deassert if the wire is active, then gives the state of a start with the same shape.
 pub fn reset(card: Card, table: &mut [u8], pending: &mut [u8], out: &mut [u8]) -> Outcome
     ensures { λ r. ⌜ after r (now (table .exit)) (now (pending .exit)) (now (out .exit)) ≡ step (worldOf card (now (table .entry)) (now (pending .entry))) (reset (now (out .entry))) ⌝ }
 {
@@ -26,7 +40,7 @@ pub fn reset(card: Card, table: &mut [u8], pending: &mut [u8], out: &mut [u8]) -
         return refused(card, 6);
     }
     let pin = before.pin;
-    let count = wire::put_owed(out, owed, f.requester, pin);
+    let count = send(out, owed, f, pin);
     let config = f.config;
     let sizes = f.sizes;
     let function = crate::started::started(config, sizes, f.events, f.requester, s, table, pending);

@@ -11,11 +11,12 @@ use Rattle.words.specs.Lists.{keep, count, within, join}
 use Rattle.words.specs.Bits.{bit, clearBit}
 use Rattle.words.specs.Bytes.{byte, bitAt}
 use Rattle.words.proofs.BoolLaws.{both, by-test}
-use Rattle.words.proofs.ListLaws.{keep-here, keep-none, member-count}
+use Rattle.words.proofs.ListLaws.{keep-here, keep-none, member-count, within-true}
 use Rattle.model.specs.declared.Mode.{Mode}
 use Rattle.model.specs.declared.Mode.the-variants.{Pin, Msi, Msix}
 use Rattle.model.specs.declared.Shape.{Shape}
-use Rattle.model.specs.Registers.{entryWritable, written}
+use Rattle.model.specs.Shape.{msixPresent, tableBytes}
+use Rattle.model.specs.Registers.{entryWritable, written, inRegion, inTable}
 use Rattle.model.specs.World.{World, Endpoint, Registers, registers, withRegisters}
 use Rattle.model.specs.Vectors.{modeOf, inForce, sameMode, isOpen, enabled, masked, waits, changeWaiting, owed, vectorCount, commandBit, msiControlBit, msixControlBit, granted, enableField}
 use Rattle.model.specs.Packets.{messageOf}
@@ -26,6 +27,14 @@ use Rattle.model.proofs.WaitingLaws.{waits-same}
 use Rattle.model.proofs.SweepLaws.{open-parts, force-refl, in-force}
 use Rattle.model.proofs.SoundLaws.{SoundEndpoint, Sound}
 use Rattle.model.proofs.EventLaws.{open-idle, no-change}
+
+-- a place in the table
+pub in-table : (s : Shape) (b o : ℕ) → inTable s b o ≡ true → (s .msix .table .at ≤ o) × (o < s .msix .table .at + tableBytes s)
+unfolding inTable inRegion
+in-table s b o e =
+    within-true (s .msix .table .at) (tableBytes s) o
+    (both (eqb b (s .msix .table .bar)) (within (s .msix .table .at) (tableBytes s) o)
+    (both (msixPresent s) (eqb b (s .msix .table .bar) && within (s .msix .table .at) (tableBytes s) o) e .1) .1)
 
 -- ---- the mechanism in force and the wire do not look at the table
 

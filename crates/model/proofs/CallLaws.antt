@@ -11,7 +11,7 @@ use Rattle.words.specs.Lists.{firstOf}
 use Rattle.model.specs.World.{World, Endpoint}
 use Rattle.model.specs.Sound.{sound}
 use Rattle.model.specs.Calls.{Call, Outcome, rows, next, sends, answerOf, outputOf, refusal, earlierRefusal, short, accepted, refused, step}
-use Rattle.model.proofs.Refusals.{refusal-is, answered-yes, answered-no}
+use Rattle.model.proofs.Refusals.{refusal-is, answered-elim, answered-yes, answered-no}
 
 -- refused with the number n
 step-refused : (w : World) (c : Call) (n : ℕ) → refusal w c ≡ n → eqb n 0 ≡ false → step w c ≡ refused w n (outputOf c)
@@ -39,3 +39,9 @@ pub step-accepted : (w : World) (c : Call) → sound w ≡ true → firstOf (row
     → step w c ≡ accepted (next w c) (answerOf (w .endpoint) c) (sends w c) (outputOf c)
 unfolding step earlierRefusal firstOf short
 step-accepted w c s e h = answered-yes (refusal w c) _ _ (refusal-is w c ∙ rw (s, e, le-ltb (length (outputOf c)) (length (sends w c)) h))
+
+-- accepted or refused
+pub step-elim : (P : Outcome → Type 0) (w : World) (c : Call) → P (accepted (next w c) (answerOf (w .endpoint) c) (sends w c) (outputOf c))
+    → ((n : ℕ) → P (refused w n (outputOf c))) → P (step w c)
+unfolding step
+step-elim P w c a r = answered-elim P (refusal w c) _ _ (λ _. a) (λ _. r (refusal w c))

@@ -1,11 +1,12 @@
 -- The walk looks only at the pointers of the capabilities that it lists, and each stands at 40h or above. Assumes nothing.
 use mathlib.Core.Path.{_≡_, refl, sym, ap, _∙_}
-use mathlib.Core.Bool.{Bool, true, false, cond, true≢false}
+use mathlib.Core.Bool.{Bool, true, false, not, cond, true≢false}
 use mathlib.Core.Option.{Option, none, some}
 use mathlib.Core.List.{List, [], _∷_}
 use Prim.Native.Nat.{ℕ, zero, suc, _+_, _≤_}
+use native.Mathlib.Omega.{arith}
 use lib.Dec.{ltb, eqb}
-use borrow.Author.Tests.{ltb-false}
+use borrow.Author.Tests.{ltb-false, ne-eqb}
 use Rattle.words.specs.Lists.{member, keep}
 use Rattle.words.specs.Bits.{bit}
 use Rattle.words.specs.Bytes.{byte}
@@ -70,3 +71,15 @@ first-listed c places id a r e =
 -- so it stands at 40h or above
 pub first-high : (c : List ℕ) (id a : ℕ) (r : List ℕ) → withId c (listed (capabilities c)) id ≡ a ∷ r → 64 ≤ a
 first-high c id a r e = capabilities-high c a (first-listed c (listed (capabilities c)) id a r e)
+
+-- there is none where its place is 0: what holds with none holds
+pub if-absent : (c : List ℕ) (id : ℕ) (at : List ℕ → ℕ) (P : List ℕ → Type 0) → ((a : ℕ) (r : List ℕ) → at (a ∷ r) ≡ a)
+    → not (eqb (at (withId c (listed (capabilities c)) id)) 0) ≡ false → P [] → P (withId c (listed (capabilities c)) id)
+if-absent c id at P place p q = go (withId c (listed (capabilities c)) id) refl p
+  where
+    go : (l : List ℕ) → withId c (listed (capabilities c)) id ≡ l → not (eqb (at l) 0) ≡ false → P l
+    go [] e p = q
+    go (a ∷ r) e p =
+        let h : 64 ≤ a = first-high c id a r e in
+        let n : at (a ∷ r) ≡ a = place a r in
+        absurd (true≢false (sym (ap not (ne-eqb (at (a ∷ r)) 0 (omega arith))) ∙ p))

@@ -1,22 +1,22 @@
 -- A start that accepts, and so a sound card, has structures inside the 256 bytes, at most 2,048 vectors and buffers that fit. Assumes nothing.
-use mathlib.Core.Path.{_≡_, refl, sym, ap, _∙_}
-use mathlib.Core.Bool.{Bool, true, false, not, true≢false}
-use mathlib.Core.List.{List, [], _∷_}
-use Prim.Native.Nat.{ℕ, _+_, _≤_}
+use mathlib.Core.Path.{_≡_, refl}
+use mathlib.Core.Bool.{Bool, true, false, not}
+use mathlib.Core.List.{List}
+use Prim.Native.Nat.{ℕ, _+_, _*_, _/_, _≤_}
 use native.Mathlib.Omega.{arith}
 use lib.Dec.{ltb, eqb}
 use lib.ListN.{length}
-use borrow.Author.Tests.{eqb-true, ne-eqb, ltb-false, not-false}
+use borrow.Author.Tests.{eqb-true, ltb-false, not-false}
 use Rattle.words.proofs.BoolLaws.{by-test}
 use Rattle.model.specs.declared.Form.{Form}
 use Rattle.model.specs.declared.Shape.{Shape}
-use Rattle.model.specs.Capabilities.{capabilities, listed, withId}
+use Rattle.model.specs.Capabilities.{capabilities, listed}
 use Rattle.model.specs.Shape.{shapeOf, shapeIn, formOf, forms, msiOf, msiAt, noMsi, msiPresent, msixPresent, tableBytes, pendingBytes}
 use Rattle.model.specs.World.{World, Endpoint}
 use Rattle.model.specs.Start.{Given}
 use Rattle.model.specs.Sound.{sound, shape, givenOf}
 use Rattle.model.specs.Fit.{Fit}
-use Rattle.model.proofs.CapabilityLaws.{first-high}
+use Rattle.model.proofs.CapabilityLaws.{if-absent}
 use Rattle.model.proofs.PlaceLaws.{Placed, placed, fits-config}
 use Rattle.model.proofs.SoundLaws.{Accepts, accepts, buffers-fit, is-sound}
 use Rattle.model.proofs.StartLaws.{few-vectors}
@@ -33,16 +33,9 @@ size-small s = go (s .msi .masks) (s .msi .wide)
     go true true = omega arith
 
 -- without MSI its shape is all 0
-absent : (c l : List ℕ) → withId c (listed (capabilities c)) 0x05 ≡ l → not (eqb (msiOf c l .at) 0) ≡ false → msiOf c l .capable ≡ 0
-unfolding msiOf msiAt noMsi
-absent c [] e p = refl
-absent c (a ∷ r) e p =
-    let h : 64 ≤ a = first-high c 0x05 a r e in
-    absurd (true≢false (sym (ap not (ne-eqb a 0 (omega arith))) ∙ p))
-
 msi-absent : (c : List ℕ) → msiPresent (shapeOf c) ≡ false → shapeOf c .msi .capable ≡ 0
-unfolding msiPresent shapeOf shapeIn
-msi-absent c = absent c (withId c (listed (capabilities c)) 0x05) refl
+unfolding msiPresent shapeOf shapeIn msiOf msiAt noMsi
+msi-absent c p = if-absent c 0x05 (λ l. msiOf c l .at) (λ l. msiOf c l .capable ≡ 0) (λ a r. refl) p refl
 
 at-zero : (n : ℕ) → not (eqb n 0) ≡ false → n ≡ 0
 at-zero n e = eqb-true n 0 (not-false (eqb n 0) e)
@@ -73,3 +66,13 @@ fit g ok = record {
 -- of a sound card
 pub sound-fit : (w : World) → sound w ≡ true → Fit (shape (w .endpoint)) (length (w .endpoint .table)) (length (w .endpoint .pending))
 sound-fit w s = fit (givenOf (w .endpoint)) (accepts (givenOf (w .endpoint)) (is-sound w s .endpoint .start))
+
+-- ---- the lengths of the buffers
+
+pub table-room : (s : Shape) (t p : ℕ) → Fit s t p → t ≡ 16 * s .msix .vectors
+unfolding tableBytes
+table-room s t p f = f .table
+
+pub pending-room : (s : Shape) (t p : ℕ) → Fit s t p → p ≡ 8 * ((s .msix .vectors + 63) / 64)
+unfolding pendingBytes
+pending-room s t p f = f .pending

@@ -4,16 +4,17 @@ use mathlib.Core.Bool.{Bool, true, false}
 use mathlib.Core.List.{List, [], _∷_, _++_, append-assoc}
 use Prim.Native.Nat.{ℕ, _+_, _*_, _/_, _%_, _^_, _≤_, _<_}
 use native.Mathlib.Omega.{arith}
-use lib.ListN.{length, take, drop, length-append}
+use lib.ListN.{length, take, drop, replicate, length-append}
 use lib.Seq.{take-at, drop-at, drop-drop}
 use Rattle.words.specs.Lists.{join}
 use Rattle.words.specs.Bits.{bit, ofBool}
 use Rattle.words.specs.Bytes.{byte, number, word16, word32, words32, bytesOf, part}
 use Rattle.words.proofs.ByteLaws.{words32-join, length-join32}
 use Rattle.model.specs.Shape.{shapeOf, tableBytes, pendingBytes}
-use Rattle.model.specs.World.{World}
+use Rattle.model.specs.World.{World, Endpoint}
 use Rattle.model.specs.Claims.{Typed}
 use Rattle.model.specs.Image.{mark, flags, cardBytes, imageOf, functionIn, worldIn}
+use Rattle.model.specs.Calls.{zeroWorld}
 
 line-flag : (a b : Bool) → bit (ofBool a + 2 * ofBool b) 0 ≡ a
 unfolding bit ofBool
@@ -100,3 +101,8 @@ module _ (w : World) (f : Typed w) (fit : length (w .endpoint .table) ≡ tableB
   pub image-length : length (imageOf w) ≡ 294 + length (w .endpoint .table) + length (w .endpoint .pending)
   unfolding imageOf cardBytes mark bytesOf
   image-length = simp length-append (omega (arith, hz, f .config))
+
+-- the bytes of a card whose fields are all 0
+pub zero-bytes : (u : Endpoint) → cardBytes (zeroWorld u) ≡ replicate 289 0
+unfolding cardBytes flags ofBool bytesOf join
+zero-bytes u = refl

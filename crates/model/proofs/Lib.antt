@@ -38,3 +38,14 @@ pub mod BarLaws
 pub mod ImageBack
 pub mod SoundTests
 pub mod ReadLaws
+pub mod AccessBounds
+pub mod AccessCalls
+pub mod SettleCalls
+pub mod WireCalls
+pub mod EventCalls
+pub mod SaveCalls
+pub mod StartCalls
+pub mod RestoreCalls
+pub mod AnswerLaws
+pub mod OutcomeLaws
+pub mod EntryLaws

@@ -18,6 +18,7 @@ use Rattle.model.specs.Release.{Raised, raise, raiseVector, raisedBy}
 use Rattle.model.specs.Vectors.{modeOf, vectorOf, isOpen, waits}
 use Rattle.model.specs.declared.Mode.{Mode}
 use Rattle.model.specs.declared.Mode.the-variants.{Pin, Msi, Msix}
+use Rattle.model.specs.declared.Shape.{Shape}
 use Rattle.model.specs.Sound.{sound, shape}
 use Rattle.model.specs.Start.{Given, startRefusal}
 use Rattle.model.specs.Image.{restoreRefusal, worldIn}
@@ -38,26 +39,29 @@ pub answered-no : (n : ℕ) (a r : Outcome) → eqb n 0 ≡ false → answered n
 unfolding answered
 answered-no n a r e = rw e
 
+-- an event's answer is one of four
+pub raised-answer : (P : Answer → Type 0) → P Sent → P Held → P Merged → P Lost → (s : Shape) (u : Endpoint) (e : ℕ) → P (raisedBy s u e .answer)
+unfolding raisedBy raise raiseVector
+raised-answer P sent held merged lost s u e = go (modeOf s (registers u))
+  where
+    vector : (m : Mode) (v : ℕ) → P (raiseVector m s u v .answer)
+    vector m v =
+        cond-elim (λ (r : Raised). P (r .answer)) (isOpen m s (registers u) v) (λ _. sent)
+        (λ _. cond-elim (λ (r : Raised). P (r .answer)) (waits m u v) (λ _. merged) (λ _. held))
+
+    go : (m : Mode) → P (raise m s u e .answer)
+    go Pin = lost
+    go Msi = vector Msi (vectorOf Msi s (registers u) e)
+    go Msix = vector Msix (vectorOf Msix s (registers u) e)
+
 -- an accepted call answers so
-vector-accepted : (m : Mode) (u : Endpoint) (v : ℕ) → isAccepted (raiseVector m (shape u) u v .answer) ≡ true
-unfolding raiseVector isAccepted
-vector-accepted m u v =
-    cond-elim (λ (r : Raised). isAccepted (r .answer) ≡ true) (isOpen m (shape u) (registers u) v) (λ _. refl)
-    (λ _. cond-elim (λ (r : Raised). isAccepted (r .answer) ≡ true) (waits m u v) (λ _. refl) (λ _. refl))
-
-event-accepted : (m : Mode) (u : Endpoint) (e : ℕ) → isAccepted (raise m (shape u) u e .answer) ≡ true
-unfolding raise isAccepted
-event-accepted Pin u e = refl
-event-accepted Msi u e = vector-accepted Msi u (vectorOf Msi (shape u) (registers u) e)
-event-accepted Msix u e = vector-accepted Msix u (vectorOf Msix (shape u) (registers u) e)
-
 pub answer-accepted : (u : Endpoint) (c : Call) → isAccepted (answerOf u c) ≡ true
-unfolding answerOf isAccepted raisedBy
+unfolding answerOf isAccepted
 answer-accepted u (configRead o n) = refl
 answer-accepted u (configWrite o n x out) = refl
 answer-accepted u (barRead b o n) = refl
 answer-accepted u (barWrite b o n x out) = refl
-answer-accepted u (event e out) = event-accepted (modeOf (shape u) (registers u)) u e
+answer-accepted u (event e out) = raised-answer (λ a. isAccepted a ≡ true) refl refl refl refl (shape u) u e
 answer-accepted u (line level out) = refl
 answer-accepted u (reset out) = refl
 answer-accepted u (save out) = refl
@@ -144,6 +148,9 @@ accepted-zero Sent e = refl
 accepted-zero Held e = refl
 accepted-zero Merged e = refl
 accepted-zero Lost e = refl
+
+pub not-accepted : (a : Answer) → (refusalOf a ≡ 0 → ⊥) → isAccepted a ≡ false
+not-accepted a h = by-test (isAccepted a) (λ e. absurd (h (accepted-zero a e))) (λ e. e)
 
 pub refusal-number : (w : World) (c : Call) → refusalOf (step w c .answer) ≡ refusal w c
 unfolding step refusalOf

@@ -94,7 +94,7 @@ room-restored w image e =
     }
 
 room-operate : (w : World) (o : Operation) → SameRoom (operate w o .world) w
-unfolding operate startOf restoreOf
+unfolding startOf restoreOf
 room-operate w (call c) = room-step w c
 room-operate w (start config sizes events requester) =
     answered-elim (λ (r : Outcome). SameRoom (r .world) w) _ _ _
@@ -129,7 +129,7 @@ pub restore-resumes : (w : World) → Typed w → (out : List ℕ) → isAccepte
     → let saved : Outcome = operate w (call (save out)) in
     let back : Outcome = operate (worldAfter (saved .world) between) (restore (wroteBytes saved)) in
     (isAccepted (back .answer) ≡ true) × (back .world ≡ saved .world) × ((rest : List Operation) → outcomes (back .world) rest ≡ outcomes (saved .world) rest)
-unfolding operate isAccepted
+unfolding isAccepted
 restore-resumes w t out a between = (
   ap (λ (r : Outcome). isAccepted (r .answer)) is,
   ap (λ (r : Outcome). r .world) is ∙ sym (k .kept),

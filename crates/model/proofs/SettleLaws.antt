@@ -11,7 +11,7 @@ use Rattle.words.specs.Lists.{all, count, keep}
 use Rattle.words.specs.Bits.{bit, clearBit}
 use Rattle.words.specs.Bytes.{byte}
 use Rattle.words.proofs.BitLaws.{bit-of-zero, clear-le}
-use Rattle.words.proofs.BoolLaws.{both, and-intro, by-test}
+use Rattle.words.proofs.BoolLaws.{both, neither, and-intro, by-test}
 use Rattle.words.proofs.ListLaws.{Holds, all-holds, holds-all, member-count, count-member, keep-none}
 use Rattle.model.specs.declared.Mode.{Mode}
 use Rattle.model.specs.declared.Mode.the-variants.{Pin, Msi, Msix}
@@ -20,8 +20,8 @@ use Rattle.model.specs.Shape.{shapeOf, msiVectors, tableBytes, pendingBy
 use Rattle.model.specs.Registers.{storedZero, entryZero}
 use Rattle.model.specs.World.{World, Endpoint, Registers, registers}
 use Rattle.model.specs.Vectors.{waits, isOpen, changeWaiting, owed, vectorCount, modeOf}
-use Rattle.model.specs.Release.{swept, owedNow, clearAll, settled, wireDue, wireDueOf}
-use Rattle.model.specs.Start.{Given, given, startRefusal}
+use Rattle.model.specs.Release.{pinNumber, swept, owedNow, clearAll, settled, wireDue, wireDueOf}
+use Rattle.model.specs.Start.{Given, given, startRefusal, badHeader}
 use Rattle.model.specs.Sound.{givenOf, shape, zeroBits, waitsBelow}
 use Rattle.model.specs.Ready.{Below, Ready}
 use Rattle.model.proofs.WaitingLaws.{InRange, waits-same, OnlyWaiting, only-registers}
@@ -71,6 +71,13 @@ below-same s u u′ e p b = record { msi = rw e (b .msi); msix = λ v h. waits-s
 
 pub ready : (u : Endpoint) → SoundEndpoint u → Ready (shape u) u
 ready u k = record { shaped = refl; start = k .start; config = k .config; table = k .table; below = below (shape u) u (k .below) }
+
+-- its pin is none or one of the four
+pub pin-small : (s : Shape) (u : Endpoint) → Ready s u → pinNumber (registers u) ≤ 4
+unfolding badHeader pinNumber
+pin-small s u k =
+    let c : List ℕ = u .function .config in
+    ltb-false 4 (byte c 0x3d) (neither (not (eqb (byte c 0x0e % 128) 0)) (ltb 4 (byte c 0x3d)) (accepts (givenOf u) (k .start) .header) .1)
 
 -- the given of a function whose waiting bits alone differ
 given-only : (u u′ : Endpoint) → OnlyWaiting u u′ → givenOf u′ ≡ givenOf u

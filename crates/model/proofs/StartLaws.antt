@@ -28,7 +28,7 @@ use Rattle.model.specs.Release.{owedNow, wireDue, wireDueOf}
 use Rattle.model.specs.Start.{Given, given, startRefusal, badStructures, started}
 use Rattle.model.specs.Sound.{givenOf, shape, zeroBits, waitsBelow, sound}
 use Rattle.model.specs.Calls.{startedWorld}
-use Rattle.model.proofs.CapabilityLaws.{first-high}
+use Rattle.model.proofs.CapabilityLaws.{first-high, if-absent}
 use Rattle.model.proofs.PlaceLaws.{Placed, placed, size-large, in-msi, at-msix}
 use Rattle.model.proofs.ShapeLaws.{bit-fixed, shape-same, refusal-same}
 use Rattle.model.proofs.FixedLaws.{length-started, byte-started, fixed-started}
@@ -57,16 +57,9 @@ unfolding msixPresent shapeOf shapeIn
 msix-high c = msix-place c (withId c (listed (capabilities c)) 0x11) refl
 
 -- without MSI-X there is no vector
-absent : (c l : List ℕ) → withId c (listed (capabilities c)) 0x11 ≡ l → not (eqb (msixOf c l .at) 0) ≡ false → msixOf c l .vectors ≡ 0
-unfolding msixOf msixAt noMsix
-absent c [] e p = refl
-absent c (a ∷ r) e p =
-    let h : 64 ≤ a = first-high c 0x11 a r e in
-    absurd (true≢false (sym (ap not (ne-eqb a 0 (omega arith))) ∙ p))
-
 pub msix-absent : (c : List ℕ) → msixPresent (shapeOf c) ≡ false → shapeOf c .msix .vectors ≡ 0
-unfolding msixPresent shapeOf shapeIn
-msix-absent c = absent c (withId c (listed (capabilities c)) 0x11) refl
+unfolding msixPresent shapeOf shapeIn msixOf msixAt noMsix
+msix-absent c p = if-absent c 0x11 (λ l. msixOf c l .at) (λ l. msixOf c l .vectors ≡ 0) (λ a r. refl) p refl
 
 -- N is at most 2,048, and 2^Capable at most 32
 pub few-vectors : (g : Given) → Accepts g → shapeOf (g .config) .msix .vectors ≤ 2048

@@ -50,7 +50,7 @@ pub waiting-history : (w₀ : World) (config sizes : List ℕ) (events requester
     → let g : Given = startGiven (w₀ .endpoint) config sizes events requester in
     let r : Run = run (operate w₀ (start config sizes events requester) .world) calls in
     (waits m (r .world .endpoint) v ≡ true) ↔ WaitsBy g m v (r .past)
-unfolding operate startOf isAccepted
+unfolding startOf isAccepted
 waiting-history w₀ config sizes events requester a calls m v e =
     answered-elim
     (λ (o : Outcome).

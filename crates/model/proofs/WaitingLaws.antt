@@ -34,6 +34,26 @@ waits-same Pin u u′ v e p = refl
 waits-same Msi u u′ v e p = rw e
 waits-same Msix u u′ v e p = rw p
 
+-- of MSI-X in the pending array alone
+pub waits-pending : (u u′ : Endpoint) (v : ℕ) → u′ .pending ≡ u .pending → waits Msix u′ v ≡ waits Msix u v
+unfolding waits
+waits-pending u u′ v p = rw p
+
+-- ---- what a change of a waiting bit changes
+
+module _ (change : ℕ → ℕ → ℕ) (u : Endpoint) (v : ℕ) where
+  pub change-pin : changeWaiting change Pin u v ≡ u
+  unfolding changeWaiting
+  change-pin = refl
+
+  pub change-msi : changeWaiting change Msi u v ≡ withWaiting u (change (u .function .waiting) v) (u .pending)
+  unfolding changeWaiting
+  change-msi = refl
+
+  pub change-msix : changeWaiting change Msix u v ≡ withWaiting u (u .function .waiting) (set (u .pending) (v / 8) (change (byte (u .pending) (v / 8)) (v % 8)))
+  unfolding changeWaiting
+  change-msix = refl
+
 -- ---- bit x of a list of bytes after bit v was changed
 
 digit-same : (x v : ℕ) → x / 8 ≡ v / 8 → eqb (x % 8) (v % 8) ≡ eqb x v

@@ -136,7 +136,7 @@ answerOf u (save out) = Done
 
 -- ---- every call of a running card
 
-unfoldable pub outputOf : Call → List ℕ
+abbrev pub outputOf : Call → List ℕ
 outputOf (configRead o n) = []
 outputOf (configWrite o n x out) = out
 outputOf (barRead b o n) = []
@@ -201,7 +201,7 @@ pub data Operation : Type 0 where
   start : (config sizes : List ℕ) (events requester : ℕ) → Operation
   restore : (image : List ℕ) → Operation
 
-unfoldable pub operate : World → Operation → Outcome
+abbrev pub operate : World → Operation → Outcome
 operate w (call c) = step w c
 operate w (start config sizes events requester) = startOf (w .endpoint) (startGiven (w .endpoint) config sizes events requester)
 operate w (restore image) = restoreOf w image

@@ -42,154 +42,154 @@ sizesOf a b = a ∷ b ∷ 0 ∷ 0 ∷ 0 ∷ 0 ∷ []
 
 -- ---- calls, each over an output of 64 bytes or as said
 
-unfoldable pub writes : (offset width value : ℕ) (bytes : List ℕ) → Expect
+abbrev pub writes : (offset width value : ℕ) (bytes : List ℕ) → Expect
 writes o n x bytes = record { call = configWrite o n x (fresh 64); bytes = bytes; answer = Done }
 
 -- four bytes of BAR 0
-unfoldable pub stores : (offset value : ℕ) (bytes : List ℕ) → Expect
+abbrev pub stores : (offset value : ℕ) (bytes : List ℕ) → Expect
 stores o x bytes = record { call = barWrite 0 o 4 x (fresh 64); bytes = bytes; answer = Done }
 
-unfoldable pub raises : (number room : ℕ) → Answer → (bytes : List ℕ) → Expect
+abbrev pub raises : (number room : ℕ) → Answer → (bytes : List ℕ) → Expect
 raises e room answer bytes = record { call = event e (fresh room); bytes = bytes; answer = answer }
 
-unfoldable pub drives : Bool → (bytes : List ℕ) → Expect
+abbrev pub drives : Bool → (bytes : List ℕ) → Expect
 drives level bytes = record { call = line level (fresh 64); bytes = bytes; answer = Done }
 
-unfoldable pub readsConfig : (offset width value : ℕ) → Expect
+abbrev pub readsConfig : (offset width value : ℕ) → Expect
 readsConfig o n x = record { call = configRead o n; bytes = []; answer = Value x }
 
 -- eight bytes of BAR 0
-unfoldable pub readsBar : (offset value : ℕ) → Expect
+abbrev pub readsBar : (offset value : ℕ) → Expect
 readsBar o x = record { call = barRead 0 o 8; bytes = []; answer = Value x }
 
-unfoldable pub resets : (bytes : List ℕ) → Expect
+abbrev pub resets : (bytes : List ℕ) → Expect
 resets bytes = record { call = reset (fresh 64); bytes = bytes; answer = Done }
 
-unfoldable pub saves : (room : ℕ) (bytes : List ℕ) → Expect
+abbrev pub saves : (room : ℕ) (bytes : List ℕ) → Expect
 saves room bytes = record { call = save (fresh room); bytes = bytes; answer = Done }
 
 -- ---- groups of calls
 
-unfoldable pub command : ℕ → Expect
+abbrev pub command : ℕ → Expect
 command x = writes 0x04 2 x []
 
 -- Message Control of the capability at 40h
-unfoldable pub control : ℕ → (bytes : List ℕ) → Expect
+abbrev pub control : ℕ → (bytes : List ℕ) → Expect
 control x bytes = writes 0x42 2 x bytes
 
 -- entry v of the table: address FEE01000h, upper address 1, data
-unfoldable pub entry : (v value : ℕ) → List Expect
+abbrev pub entry : (v value : ℕ) → List Expect
 entry v value = stores (16 * v) 0xfee01000 [] ∷ stores (16 * v + 4) 1 [] ∷ stores (16 * v + 8) value [] ∷ []
 
 -- the mask bit of entry v cleared
-unfoldable pub unmask : ℕ → (bytes : List ℕ) → Expect
+abbrev pub unmask : ℕ → (bytes : List ℕ) → Expect
 unmask v bytes = stores (16 * v + 12) 0 bytes
 
 -- MSI on with address FEE00000h, this data register and this Enable; bus mastering on
-unfoldable pub msiSteps : (value enable : ℕ) → List Expect
+abbrev pub msiSteps : (value enable : ℕ) → List Expect
 msiSteps value enable =
     command 0x0004 ∷ writes 0x44 4 0xfee00000 [] ∷ writes 0x48 2 value [] ∷ control (16 * enable + 1) [] ∷ []
 
 -- one MSI-X vector with data 31h and mask 0
-unfoldable pub oneVector : ℕ → List Expect
+abbrev pub oneVector : ℕ → List Expect
 oneVector x = command x ∷ entry 0 0x31 ++ (unmask 0 [] ∷ [])
 
 -- ---- packets
 
-unfoldable pub message32 : (low high : ℕ) → List ℕ
+abbrev pub message32 : (low high : ℕ) → List ℕ
 message32 low high = 0x40 ∷ 0 ∷ 0 ∷ 1 ∷ 1 ∷ 0 ∷ 0 ∷ 0x0f ∷ 0xfe ∷ 0xe0 ∷ 0 ∷ 0 ∷ low ∷ high ∷ 0 ∷ 0 ∷ []
 
-unfoldable pub message64 : ℕ → List ℕ
+abbrev pub message64 : ℕ → List ℕ
 message64 low = 0x60 ∷ 0 ∷ 0 ∷ 1 ∷ 1 ∷ 0 ∷ 0 ∷ 0x0f ∷ 0 ∷ 0 ∷ 0 ∷ 1 ∷ 0xfe ∷ 0xe0 ∷ 0x10 ∷ 0 ∷ low ∷ 0 ∷ 0 ∷ 0 ∷ []
 
-unfoldable pub wirePacket : ℕ → List ℕ
+abbrev pub wirePacket : ℕ → List ℕ
 wirePacket code = 0x34 ∷ 0 ∷ 0 ∷ 0 ∷ 1 ∷ 0 ∷ 0 ∷ code ∷ 0 ∷ 0 ∷ 0 ∷ 0 ∷ 0 ∷ 0 ∷ 0 ∷ 0 ∷ []
 
 -- ---- kinds of cases
 
-unfoldable pub msiCase : (events value enable : ℕ) → List Expect → Case
+abbrev pub msiCase : (events value enable : ℕ) → List Expect → Case
 msiCase events value enable steps =
     record { config = msiCard; sizes = sizesOf 0 0; events = events; vectors = 0; steps = msiSteps value enable ++ steps }
 
 -- the table at the start of BAR 0, the pending array at 1000h of it, and as many events as vectors
-unfoldable pub msixCase : ℕ → List Expect → Case
+abbrev pub msixCase : ℕ → List Expect → Case
 msixCase n steps =
     record { config = msixCard 0 n 0 0x1000; sizes = sizesOf 0x2000 0; events = n; vectors = n; steps = steps }
 
-unfoldable pub plainCase : (pin : ℕ) → List Expect → Case
+abbrev pub plainCase : (pin : ℕ) → List Expect → Case
 plainCase pin steps = record { config = header pin; sizes = sizesOf 0 0; events = 1; vectors = 0; steps = steps }
 
 -- ---- cases 1 to 11
 
-unfoldable pub case1 : Case
+abbrev pub case1 : Case
 case1 = msiCase 4 0x49a0 2 (raises 1 40 Sent (message32 0xa1 0x49) ∷ [])
 
-unfoldable pub case2 : Case
+abbrev pub case2 : Case
 case2 = msiCase 4 0x49a3 2 (raises 1 40 Sent (message32 0xa1 0x49) ∷ [])
 
-unfoldable pub case3 : Case
+abbrev pub case3 : Case
 case3 = msiCase 8 0x49a0 2 (raises 5 40 Sent (message32 0xa1 0x49) ∷ [])
 
-unfoldable pub case4 : Case
+abbrev pub case4 : Case
 case4 = msiCase 8 0x0040 3 (raises 5 40 Sent (message32 0x45 0) ∷ [])
 
-unfoldable pub case5 : Case
+abbrev pub case5 : Case
 case5 = msixCase 1 (oneVector 0x0006 ++ (control 0x8000 [] ∷ raises 0 40 Sent (message64 0x31) ∷ []))
 
-unfoldable pub case6 : Case
+abbrev pub case6 : Case
 case6 =
     plainCase 1
     (command 0x0004 ∷ drives true (wirePacket 0x20) ∷ readsConfig 0x06 2 0x0008 ∷ drives false (wirePacket 0x24) ∷ [])
 
-unfoldable pub case7 : Case
+abbrev pub case7 : Case
 case7 =
     msixCase 4
     (command 0x0006 ∷ entry 3 0x33
     ++ (control 0x8000 [] ∷ raises 3 40 Held [] ∷ raises 3 40 Merged [] ∷ readsBar 0x1000 0x08 ∷ unmask 3 (message64 0x33)
     ∷ readsBar 0x1000 0 ∷ []))
 
-unfoldable pub case8 : Case
+abbrev pub case8 : Case
 case8 =
     msixCase 10
     (command 0x0006 ∷ entry 2 0x32 ++ entry 9 0x39
     ++ (unmask 2 [] ∷ unmask 9 [] ∷ control 0xc000 [] ∷ raises 9 40 Held [] ∷ raises 2 40 Held []
     ∷ control 0x8000 (message64 0x32 ++ message64 0x39) ∷ []))
 
-unfoldable pub case9 : Case
+abbrev pub case9 : Case
 case9 =
     msixCase 1 (oneVector 0x0002 ++ (control 0x8000 [] ∷ raises 0 40 Held [] ∷ writes 0x04 2 0x0006 (message64 0x31) ∷ []))
 
-unfoldable pub case10 : Case
+abbrev pub case10 : Case
 case10 =
     msixCase 1
     (oneVector 0x0006
     ++ (control 0xc000 [] ∷ raises 0 40 Held [] ∷ control 0x0000 [] ∷ drives true (wirePacket 0x20)
     ∷ control 0x8000 (wirePacket 0x24 ++ message64 0x31) ∷ []))
 
-unfoldable pub case11 : Case
+abbrev pub case11 : Case
 case11 = plainCase 0 (saves 300 (0x49 ∷ 0x52 ∷ 0x51 ∷ 1 ∷ 0 ∷ 0 ∷ 1 ∷ 0 ∷ 0 ∷ 1 ∷ replicate 284 0) ∷ [])
 
-unfoldable pub starredCases : List Case
+abbrev pub starredCases : List Case
 starredCases =
     case1 ∷ case2 ∷ case3 ∷ case4 ∷ case5 ∷ case6 ∷ case7 ∷ case8 ∷ case9 ∷ case10 ∷ case11 ∷ []
 
 -- ---- cases 12 and 13
 
-unfoldable pub lastEvent : Case
+abbrev pub lastEvent : Case
 lastEvent = msiCase 8 0x49a0 2 (raises 7 40 Sent (message32 0xa3 0x49) ∷ raises 8 40 (Refused 2) [] ∷ [])
 
-unfoldable pub shortOutput : Case
+abbrev pub shortOutput : Case
 shortOutput = msiCase 4 0x49a0 2 (raises 1 15 (Refused 6) [] ∷ raises 1 16 Sent (message32 0xa1 0x49) ∷ [])
 
 -- the card of case 1 before the event, and whether an event over 15 bytes leaves it as it was, by its images before and after
-unfoldable pub caseOneCard : Played
+abbrev pub caseOneCard : Played
 caseOneCard = playedAll (begun msiCard (sizesOf 0 0) 4 0 Done) (msiSteps 0x49a0 2)
 
 unfoldable pub shortKeeps : Bool
 shortKeeps = sameImage (imageTaken (caseOneCard .world)) (imageTaken (played caseOneCard (raises 1 15 (Refused 6) []) .world))
 
 -- a table of 64 bytes from 40h of BAR 0 on, and a pending array that fills BAR 1
-unfoldable pub tableEnds : (size : ℕ) → Answer → Played
+abbrev pub tableEnds : (size : ℕ) → Answer → Played
 tableEnds size answer = begun (msixCard 0 4 0x40 1) (sizesOf size 8) 4 4 answer
 
 unfoldable pub limits : Bool

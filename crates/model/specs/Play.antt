@@ -27,6 +27,7 @@ pub record Case : Type 0 where
 
 -- ---- answers
 
+-- a number for each kind of answer
 unfoldable pub kindOf : Answer → ℕ
 kindOf (Refused n) = 0
 kindOf Done = 1

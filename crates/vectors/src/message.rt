@@ -49,11 +49,12 @@ pub fn msi_base(c: &[u8; 256], s: Shape) -> Message
 {
     let g = granted(c, s);
     let data = msi_data(c, s);
+    let low = data % g;
     let upper = msi_upper(c, s);
     Message {
         upper,
         address: words::get::word32(c, s.msi.at + 4),
-        value: data / g * g,
+        value: data - low,
     }
 }
 

@@ -110,11 +110,15 @@ wiring-is s line wire r m p d em ep ed = rw (em, ep, ed)
 
 -- the wire goes to the level that it should have: with the mechanism in force and Command bit 10 as they are, and with another level of the line
 module _ (v : Wiring) (w : Wired) (s : Shape) (line wire : Bool) (r : Registers) (e : v ≡ wiringOf s line wire r) where
-  settled-wire : (level : Bool) → w ≡ withLevel (wiringOf s level wire r) (dueOf (wiringOf s level wire r)) → (w .wiring .wire ≡ wireDue s level r) × (w .owed ≡ owedOf wire (wireDue s level r))
-  settled-wire level q = rw (q, due-is s level wire r) (refl, refl)
+  settled-wire : (level : Bool) → w ≡ withLevel (wiringOf s level wire r) (dueOf (wiringOf s level wire r)) → w ≡ withLevel (wiringOf s level wire r) (wireDue s level r)
+  settled-wire level q = q ∙ ap (withLevel (wiringOf s level wire r)) (due-is s level wire r)
 
-  pub settled-mode : w ≡ withMode v (v .mode) (v .disabled) → (w .wiring .wire ≡ wireDue s line r) × (w .owed ≡ owedOf wire (wireDue s line r))
+  pub settled-mode : w ≡ withMode v (v .mode) (v .disabled) → w ≡ withLevel (wiringOf s line wire r) (wireDue s line r)
   settled-mode q = settled-wire line (rw e at q)
 
-  pub settled-line : (level : Bool) → w ≡ withLine v level → (w .wiring .wire ≡ wireDue s level r) × (w .owed ≡ owedOf wire (wireDue s level r))
+  pub settled-line : (level : Bool) → w ≡ withLine v level → w ≡ withLevel (wiringOf s level wire r) (wireDue s level r)
   settled-line level q = settled-wire level (rw e at q)
+
+-- the level, and the packet owed
+pub at-level : (v : Wiring) (w : Wired) (level : Bool) → w ≡ withLevel v level → (w .wiring .wire ≡ level) × (w .owed ≡ owedOf (v .wire) level)
+at-level v w level q = (ap (λ (x : Wired). x .wiring .wire) q, ap (λ (x : Wired). x .owed) q)

@@ -7,7 +7,7 @@ use native.Mathlib.Numerals.{one-add, add-one}
 use native.Mathlib.Omega.{arith}
 use lib.Bits.{bitAnd, bitOr, and-step, or-step, and-shr, and-mod, or-shr, or-mod, and-lt, or-lt, and-le-r}
 use lib.Dec.{eqb}
-use lib.Pow.{shr-shr, pow-pos, pow-mono, mod-pow-add}
+use lib.Pow.{shr-shr, pow-pos, pow-lt, pow-mono, mod-pow-add}
 use borrow.Author.Tests.{eq-eqb, ne-eqb, eqb-true, eqb-false}
 use Rattle.words.specs.Bits.{bit, field, clear, clearBit, setBit, merge}
 
@@ -213,6 +213,11 @@ and-not w mask x h j =
     swap true false = refl
     swap false true = refl
     swap false false = refl
+
+-- one bit of a byte
+pub clear-byte : (x k : ℕ) → k < 8 → x < 256 → bitAnd (255 - 2 ^ k) x ≡ clearBit x k
+unfolding clearBit
+clear-byte x k h j = and-not 8 (2 ^ k) x (pow-lt h) j
 
 -- ---- laws of clear and merge that follow bit by bit
 

@@ -1,6 +1,6 @@
 use denote.Ref.{now}
-use mathlib.Core.Path.{refl}
-use Rattle.model.specs.Calls.{barRead, outputOf, rows}
+use Rattle.model.specs.Calls.{barRead}
+use Rattle.model.proofs.AccessCalls.{bar-reads}
 use Rattle.card.proofs.CallsFor.{refused-unsound}
 use Rattle.bar_access.proofs.BarFor.{bar-fit, bar-refused, bar-no-memory, bar-asks, bar-read-value}
 use borrow.Author.Needs.{needs}
@@ -14,8 +14,7 @@ refused-requires : tie.Need-refused-requires
 refused-requires c κs = search needs
 
 returns : tie.Need-returns
-unfolding outputOf
-returns c = refused-unsound (c .before .before .before .before .before .before .args .t1) (now (c .before .before .before .before .before .before .args .table)) (now (c .before .before .before .before .before .before .args .pending)) _ (barRead (c .before .before .before .before .before .before .args .bar) (c .before .before .before .before .before .before .args .offset) (c .before .before .before .before .before .before .args .width)) refl _ (c .before .before .before .check .ensures .1) _ (c .before .if1 .taken) (c .refused .ensures)
+returns c = refused-unsound (c .before .before .before .before .before .before .args .t1) (now (c .before .before .before .before .before .before .args .table)) (now (c .before .before .before .before .before .before .args .pending)) (barRead (c .before .before .before .before .before .before .args .bar) (c .before .before .before .before .before .before .args .offset) (c .before .before .before .before .before .before .args .width)) _ (c .before .before .before .check .ensures .1) _ (c .before .if1 .taken) (c .refused .ensures)
 
 bad-bar-requires : tie.Need-bad-bar-requires
 bad-bar-requires c κs = bar-fit (c .before .before .before .before .before .before .args .t1) (now (c .before .before .before .before .before .before .args .table)) (now (c .before .before .before .before .before .before .args .pending)) _ (c .before .before .before .check .ensures .1) (c .before .if1 .left) _ (c .before .before .before .check .ensures .0) .few
@@ -24,8 +23,7 @@ refused-requires-2 : tie.Need-refused-requires-2
 refused-requires-2 c κs = search needs
 
 returns-2 : tie.Need-returns-2
-unfolding outputOf rows
-returns-2 c = bar-refused (c .before .before .before .before .before .before .before .before .before .args .t1) (now (c .before .before .before .before .before .before .before .before .before .args .table)) (now (c .before .before .before .before .before .before .before .before .before .args .pending)) _ (c .before .before .before .before .before .before .check .ensures .1) (c .before .before .before .before .if1 .left) _ (c .before .before .before .before .before .before .check .ensures .0) _ _ _ _ (c .before .before .bad-bar .ensures) (barRead (c .before .before .before .before .before .before .before .before .before .args .bar) (c .before .before .before .before .before .before .before .before .before .args .offset) (c .before .before .before .before .before .before .before .before .before .args .width)) refl _ (c .before .if2 .taken) (c .refused2 .ensures)
+returns-2 c = bar-refused (c .before .before .before .before .before .before .before .before .before .args .t1) (now (c .before .before .before .before .before .before .before .before .before .args .table)) (now (c .before .before .before .before .before .before .before .before .before .args .pending)) _ (c .before .before .before .before .before .before .check .ensures .1) (c .before .before .before .before .if1 .left) _ (c .before .before .before .before .before .before .check .ensures .0) _ _ _ _ (c .before .before .bad-bar .ensures) (barRead (c .before .before .before .before .before .before .before .before .before .args .bar) (c .before .before .before .before .before .before .before .before .before .args .offset) (c .before .before .before .before .before .before .before .before .before .args .width)) bar-reads _ (c .before .if2 .taken) (c .refused2 .ensures)
 
 command-bit-requires : tie.Need-command-bit-requires
 command-bit-requires c κs = search needs
@@ -34,8 +32,7 @@ refused-requires-3 : tie.Need-refused-requires-3
 refused-requires-3 c κs = search needs
 
 returns-3 : tie.Need-returns-3
-unfolding outputOf rows
-returns-3 c = bar-no-memory (c .before .before .before .before .before .before .before .before .before .before .before .before .before .args .t1) (now (c .before .before .before .before .before .before .before .before .before .before .before .before .before .args .table)) (now (c .before .before .before .before .before .before .before .before .before .before .before .before .before .args .pending)) _ (c .before .before .before .before .before .before .before .before .before .before .check .ensures .1) (c .before .before .before .before .before .before .before .before .if1 .left) _ (c .before .before .before .before .before .before .before .before .before .before .check .ensures .0) _ _ _ _ (c .before .before .before .before .before .before .bad-bar .ensures) (barRead (c .before .before .before .before .before .before .before .before .before .before .before .before .before .args .bar) (c .before .before .before .before .before .before .before .before .before .before .before .before .before .args .offset) (c .before .before .before .before .before .before .before .before .before .before .before .before .before .args .width)) refl _ _ (c .before .before .before .before .before .if2 .left) ((c .before .before .command-bit .ensures) _) (c .before .if3 .taken) (c .refused3 .ensures)
+returns-3 c = bar-no-memory (c .before .before .before .before .before .before .before .before .before .before .before .before .before .args .t1) (now (c .before .before .before .before .before .before .before .before .before .before .before .before .before .args .table)) (now (c .before .before .before .before .before .before .before .before .before .before .before .before .before .args .pending)) _ (c .before .before .before .before .before .before .before .before .before .before .check .ensures .1) (c .before .before .before .before .before .before .before .before .if1 .left) _ (c .before .before .before .before .before .before .before .before .before .before .check .ensures .0) _ _ _ _ (c .before .before .before .before .before .before .bad-bar .ensures) (barRead (c .before .before .before .before .before .before .before .before .before .before .before .before .before .args .bar) (c .before .before .before .before .before .before .before .before .before .before .before .before .before .args .offset) (c .before .before .before .before .before .before .before .before .before .before .before .before .before .args .width)) bar-reads _ _ (c .before .before .before .before .before .if2 .left) ((c .before .before .command-bit .ensures) _) (c .before .if3 .taken) (c .refused3 .ensures)
 
 bar-value-requires : tie.Need-bar-value-requires
 bar-value-requires c κs = bar-asks (c .before .before .before .before .before .before .before .before .before .before .before .before .args .t1) (now (c .before .before .before .before .before .before .before .before .before .before .before .before .args .table)) (now (c .before .before .before .before .before .before .before .before .before .before .before .before .args .pending)) _ (c .before .before .before .before .before .before .before .before .before .check .ensures .1) (c .before .before .before .before .before .before .before .if1 .left) _ (c .before .before .before .before .before .before .before .before .before .check .ensures .0) _ _ _ _ (c .before .before .before .before .before .bad-bar .ensures) (c .before .before .before .before .if2 .left)

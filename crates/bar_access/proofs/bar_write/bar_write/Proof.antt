@@ -1,6 +1,6 @@
 use denote.Ref.{now}
-use mathlib.Core.Path.{refl}
-use Rattle.model.specs.Calls.{barWrite, outputOf, rows}
+use Rattle.model.specs.Calls.{barWrite}
+use Rattle.model.proofs.AccessCalls.{bar-writes}
 use Rattle.card.proofs.CallsFor.{refused-unsound}
 use Rattle.bar_access.proofs.BarFor.{bar-fit, bar-refused, bar-no-memory}
 use Rattle.bar_access.proofs.BarWriteFor.{bar-write-place, bar-write-asks, bar-write-none, bar-write-table}
@@ -21,8 +21,7 @@ same-length-2 : tie.Need-same-length-2
 same-length-2 c = search needs
 
 returns : tie.Need-returns
-unfolding outputOf
-returns c = refused-unsound (c .before .before .before .before .before .before .before .before .before .args .t1) (now (c .before .before .before .before .before .before .before .before .before .args .table)) (now (c .before .before .before .before .before .before .before .before .before .args .pending)) _ (barWrite (c .before .before .before .before .before .before .before .before .before .args .bar) (c .before .before .before .before .before .before .before .before .before .args .offset) (c .before .before .before .before .before .before .before .before .before .args .width) (c .before .before .before .before .before .before .before .before .before .args .value) (now (c .before .before .before .before .before .before .before .before .before .args .out))) refl _ (c .before .before .before .check .ensures .1) _ (c .before .if1 .taken) (c .refused .ensures)
+returns c = refused-unsound (c .before .before .before .before .before .before .before .before .before .args .t1) (now (c .before .before .before .before .before .before .before .before .before .args .table)) (now (c .before .before .before .before .before .before .before .before .before .args .pending)) (barWrite (c .before .before .before .before .before .before .before .before .before .args .bar) (c .before .before .before .before .before .before .before .before .before .args .offset) (c .before .before .before .before .before .before .before .before .before .args .width) (c .before .before .before .before .before .before .before .before .before .args .value) (now (c .before .before .before .before .before .before .before .before .before .args .out))) _ (c .before .before .before .check .ensures .1) _ (c .before .if1 .taken) (c .refused .ensures)
 
 bad-bar-requires : tie.Need-bad-bar-requires
 bad-bar-requires c κs = bar-fit (c .before .before .before .before .before .before .before .before .before .args .t1) (now (c .before .before .before .before .before .before .before .before .before .args .table)) (now (c .before .before .before .before .before .before .before .before .before .args .pending)) _ (c .before .before .before .check .ensures .1) (c .before .if1 .left) _ (c .before .before .before .check .ensures .0) .few
@@ -37,8 +36,7 @@ same-length-4 : tie.Need-same-length-4
 same-length-4 c = search needs
 
 returns-2 : tie.Need-returns-2
-unfolding outputOf rows
-returns-2 c = bar-refused (c .before .before .before .before .before .before .before .before .before .before .before .before .args .t1) (now (c .before .before .before .before .before .before .before .before .before .before .before .before .args .table)) (now (c .before .before .before .before .before .before .before .before .before .before .before .before .args .pending)) _ (c .before .before .before .before .before .before .check .ensures .1) (c .before .before .before .before .if1 .left) _ (c .before .before .before .before .before .before .check .ensures .0) _ _ _ _ (c .before .before .bad-bar .ensures) (barWrite (c .before .before .before .before .before .before .before .before .before .before .before .before .args .bar) (c .before .before .before .before .before .before .before .before .before .before .before .before .args .offset) (c .before .before .before .before .before .before .before .before .before .before .before .before .args .width) (c .before .before .before .before .before .before .before .before .before .before .before .before .args .value) (now (c .before .before .before .before .before .before .before .before .before .before .before .before .args .out))) refl _ (c .before .if2 .taken) (c .refused2 .ensures)
+returns-2 c = bar-refused (c .before .before .before .before .before .before .before .before .before .before .before .before .args .t1) (now (c .before .before .before .before .before .before .before .before .before .before .before .before .args .table)) (now (c .before .before .before .before .before .before .before .before .before .before .before .before .args .pending)) _ (c .before .before .before .before .before .before .check .ensures .1) (c .before .before .before .before .if1 .left) _ (c .before .before .before .before .before .before .check .ensures .0) _ _ _ _ (c .before .before .bad-bar .ensures) (barWrite (c .before .before .before .before .before .before .before .before .before .before .before .before .args .bar) (c .before .before .before .before .before .before .before .before .before .before .before .before .args .offset) (c .before .before .before .before .before .before .before .before .before .before .before .before .args .width) (c .before .before .before .before .before .before .before .before .before .before .before .before .args .value) (now (c .before .before .before .before .before .before .before .before .before .before .before .before .args .out))) (bar-writes _ _) _ (c .before .if2 .taken) (c .refused2 .ensures)
 
 command-bit-requires : tie.Need-command-bit-requires
 command-bit-requires c κs = search needs
@@ -53,8 +51,7 @@ same-length-6 : tie.Need-same-length-6
 same-length-6 c = search needs
 
 returns-3 : tie.Need-returns-3
-unfolding outputOf rows
-returns-3 c = bar-no-memory (c .before .before .before .before .before .before .before .before .before .before .before .before .before .before .before .before .args .t1) (now (c .before .before .before .before .before .before .before .before .before .before .before .before .before .before .before .before .args .table)) (now (c .before .before .before .before .before .before .before .before .before .before .before .before .before .before .before .before .args .pending)) _ (c .before .before .before .before .before .before .before .before .before .before .check .ensures .1) (c .before .before .before .before .before .before .before .before .if1 .left) _ (c .before .before .before .before .before .before .before .before .before .before .check .ensures .0) _ _ _ _ (c .before .before .before .before .before .before .bad-bar .ensures) (barWrite (c .before .before .before .before .before .before .before .before .before .before .before .before .before .before .before .before .args .bar) (c .before .before .before .before .before .before .before .before .before .before .before .before .before .before .before .before .args .offset) (c .before .before .before .before .before .before .before .before .before .before .before .before .before .before .before .before .args .width) (c .before .before .before .before .before .before .before .before .before .before .before .before .before .before .before .before .args .value) (now (c .before .before .before .before .before .before .before .before .before .before .before .before .before .before .before .before .args .out))) refl _ _ (c .before .before .before .before .before .if2 .left) ((c .before .before .command-bit .ensures) _) (c .before .if3 .taken) (c .refused3 .ensures)
+returns-3 c = bar-no-memory (c .before .before .before .before .before .before .before .before .before .before .before .before .before .before .before .before .args .t1) (now (c .before .before .before .before .before .before .before .before .before .before .before .before .before .before .before .before .args .table)) (now (c .before .before .before .before .before .before .before .before .before .before .before .before .before .before .before .before .args .pending)) _ (c .before .before .before .before .before .before .before .before .before .before .check .ensures .1) (c .before .before .before .before .before .before .before .before .if1 .left) _ (c .before .before .before .before .before .before .before .before .before .before .check .ensures .0) _ _ _ _ (c .before .before .before .before .before .before .bad-bar .ensures) (barWrite (c .before .before .before .before .before .before .before .before .before .before .before .before .before .before .before .before .args .bar) (c .before .before .before .before .before .before .before .before .before .before .before .before .before .before .before .before .args .offset) (c .before .before .before .before .before .before .before .before .before .before .before .before .before .before .before .before .args .width) (c .before .before .before .before .before .before .before .before .before .before .before .before .before .before .before .before .args .value) (now (c .before .before .before .before .before .before .before .before .before .before .before .before .before .before .before .before .args .out))) (bar-writes _ _) _ _ (c .before .before .before .before .before .if2 .left) ((c .before .before .command-bit .ensures) _) (c .before .if3 .taken) (c .refused3 .ensures)
 
 in-table-requires : tie.Need-in-table-requires
 in-table-requires c κs = bar-fit (c .before .before .before .before .before .before .before .before .before .before .before .before .before .before .before .args .t1) (now (c .before .before .before .before .before .before .before .before .before .before .before .before .before .before .before .args .table)) (now (c .before .before .before .before .before .before .before .before .before .before .before .before .before .before .before .args .pending)) _ (c .before .before .before .before .before .before .before .before .before .check .ensures .1) (c .before .before .before .before .before .before .before .if1 .left) _ (c .before .before .before .before .before .before .before .before .before .check .ensures .0) .few

@@ -1,4 +1,4 @@
-use Rattle.bar_access.proofs.BoundsFor.{bar-above, bar-width, bar-multiple, bar-table, bar-pending, bar-width-positive}
+use Rattle.model.proofs.AccessBounds.{bar-above, bar-width, bar-multiple, bar-table, bar-pending, bar-width-positive}
 use borrow.Author.Needs.{needs}
 use Rattle.bar_access.proofs.bounds.bad_bar.Statement.{statement}
 use Rattle.bar_access.proofs.bounds.bad_bar.Tie as tie

@@ -4,7 +4,7 @@ use native.Mathlib.Omega.{arith}
 use lib.ListN.{set}
 use denote.Ref.{now}
 use Rattle.words.proofs.LowestLaws.{one-shl}
-use Rattle.bar_access.proofs.EntryFor.{clear-byte}
+use Rattle.words.proofs.BitLaws.{clear-byte}
 use borrow.Author.Needs.{needs}
 use Rattle.bar_access.proofs.entry.clear_pending.Statement.{statement}
 use Rattle.bar_access.proofs.entry.clear_pending.Tie as tie

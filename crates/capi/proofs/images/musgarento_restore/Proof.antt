@@ -1,9 +1,9 @@
 use denote.Ref.{now}
 use mathlib.Core.Path.{refl}
-use Rattle.model.specs.Calls.{restore, operate}
+use Rattle.model.specs.Calls.{restore}
+use Rattle.model.proofs.OutcomeLaws.{restore-bare}
 use Rattle.capi.specs.Crossing.{wellFormed, lent}
 use Rattle.capi.proofs.CardFor.{card-room, card-size}
-use Rattle.capi.proofs.Outcomes.{restore-bare}
 use Rattle.capi.proofs.CrossingFor.{no-card, restores-back}
 use borrow.Author.Needs.{needs}
 use Rattle.capi.proofs.images.musgarento_restore.Statement.{statement}
@@ -38,7 +38,7 @@ same-length-4 : tie.Need-same-length-4
 same-length-4 c = search needs
 
 returns-2 : tie.Need-returns-2
-unfolding wellFormed operate
+unfolding wellFormed
 returns-2 c = restores-back _ _ _ (restore (now (c .before .before .before .before .before .before .before .before .before .before .before .before .before .before .before .before .before .before .before .before .args .image))) refl _ (c .before .before .before .before .before .before .before .before .before .before .before .before .before .before .is-card .ensures) (c .before .before .before .before .before .before .before .before .before .before .before .before .before .if1 .left) _ (c .before .before .before .before .before .before .before .before .before .before .before .card-of .ensures) _ _ _ _ (c .before .before .before .before .before .before .before .before .restore .ensures) _ (c .before .before .hand-back .ensures .0) _ (c .before .before .hand-back .ensures .1) (restore-bare _ _)
 
 pub musgarento-restore-spec : {M : Type 1} → statement M

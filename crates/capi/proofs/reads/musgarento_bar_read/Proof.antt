@@ -1,8 +1,8 @@
 use mathlib.Core.Path.{refl}
-use Rattle.model.specs.Calls.{call, barRead, outputOf, operate}
+use Rattle.model.specs.Calls.{call, barRead}
+use Rattle.model.proofs.OutcomeLaws.{read-call}
 use Rattle.capi.specs.Crossing.{wellFormed, lent}
 use Rattle.capi.proofs.CardFor.{card-room}
-use Rattle.capi.proofs.Outcomes.{bar-reads}
 use Rattle.capi.proofs.CrossingFor.{no-card, reads-back}
 use borrow.Author.Needs.{needs}
 use Rattle.capi.proofs.reads.musgarento_bar_read.Statement.{statement}
@@ -12,7 +12,7 @@ is-card-requires : tie.Need-is-card-requires
 is-card-requires c κs = search needs
 
 returns : tie.Need-returns
-unfolding wellFormed lent outputOf
+unfolding wellFormed lent
 returns c = no-card _ _ _ (call (barRead (c .before .before .before .before .before .args .bar) (c .before .before .before .before .before .args .offset) (c .before .before .before .before .before .args .width))) refl _ (c .before .is-card .ensures) _ refl (c .if1 .taken)
 
 card-of-requires : tie.Need-card-of-requires
@@ -25,8 +25,8 @@ numbers-of-requires : tie.Need-numbers-of-requires
 numbers-of-requires c κs = search needs
 
 returns-2 : tie.Need-returns-2
-unfolding wellFormed operate
-returns-2 c = reads-back _ _ _ (call (barRead (c .before .before .before .before .before .before .before .before .args .bar) (c .before .before .before .before .before .before .before .before .args .offset) (c .before .before .before .before .before .before .before .before .args .width))) refl _ (c .before .before .before .before .is-card .ensures) (c .before .before .before .if1 .left) _ (c .before .before .card-of .ensures) _ _ _ _ (c .before .bar-read .ensures) _ (c .numbers-of .ensures) (λ i. (c .before .before .before .before .before .before .before .shared-slice-known .given) i .fits) (bar-reads _ _ _ _)
+unfolding wellFormed
+returns-2 c = reads-back _ _ _ (call (barRead (c .before .before .before .before .before .before .before .before .args .bar) (c .before .before .before .before .before .before .before .before .args .offset) (c .before .before .before .before .before .before .before .before .args .width))) refl _ (c .before .before .before .before .is-card .ensures) (c .before .before .before .if1 .left) _ (c .before .before .card-of .ensures) _ _ _ _ (c .before .bar-read .ensures) _ (c .numbers-of .ensures) (λ i. (c .before .before .before .before .before .before .before .shared-slice-known .given) i .fits) (read-call _ _ refl)
 
 pub musgarento-bar-read-spec : {M : Type 1} → statement M
 musgarento-bar-read-spec =

@@ -1,8 +1,7 @@
--- The bytes are those that the writer of messages makes of the fields. Assumes nothing.
-use mathlib.Core.Path.{_∙_}
-use Rattle.model.proofs.PacketLaws.{size-le}
+use Rattle.cases.proofs.DecodeLaws.{message-is, message-other}
+use Rattle.cases.proofs.Front.{wrote-within}
 use Rattle.io.proofs.Counting.{counts}
-use Rattle.cases.proofs.Front.{wrote-within, wrote-front}
+use Rattle.model.proofs.PacketLaws.{size-le}
 use borrow.Author.Needs.{needs}
 use Rattle.cases.proofs.packet.as_message.Statement.{statement}
 use Rattle.cases.proofs.packet.as_message.Tie as tie
@@ -23,10 +22,10 @@ same-requires : tie.Need-same-requires
 same-requires c κs = search needs
 
 returns : tie.Need-returns
-returns c = (c .before .same .ensures .0) (c .if1 .taken) ∙ wrote-front (c .before .before .before .before .put-message .ensures)
+returns c = message-is _ _ _ _ _ _ (c .before .before .before .before .put-message .ensures) (c .before .same .ensures) (c .if1 .taken)
 
 returns-2 : tie.Need-returns-2
-returns-2 c = search needs
+returns-2 c = message-other _ (c .before .before .before .before .before .before .before .args .m) _ _ _ _ (c .before .before .before .before .put-message .ensures) (c .before .same .ensures) (c .if1 .left)
 
 pub as-message-spec : {M : Type 1} → statement M
 as-message-spec =

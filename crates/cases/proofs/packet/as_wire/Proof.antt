@@ -1,7 +1,6 @@
--- The bytes are those that the writer of wire packets makes of the fields. Assumes nothing.
-use mathlib.Core.Path.{_∙_}
+use Rattle.cases.proofs.DecodeLaws.{wire-is, wire-other}
+use Rattle.cases.proofs.Front.{wrote-within}
 use Rattle.io.proofs.Counting.{counts}
-use Rattle.cases.proofs.Front.{wrote-within, wrote-front}
 use borrow.Author.Needs.{needs}
 use Rattle.cases.proofs.packet.as_wire.Statement.{statement}
 use Rattle.cases.proofs.packet.as_wire.Tie as tie
@@ -22,10 +21,10 @@ same-requires : tie.Need-same-requires
 same-requires c κs = search needs
 
 returns : tie.Need-returns
-returns c = (c .before .same .ensures .0) (c .if1 .taken) ∙ wrote-front (c .before .before .before .before .put-wire .ensures)
+returns c = wire-is _ _ _ _ _ _ (c .before .before .before .before .put-wire .ensures) (c .before .same .ensures) (c .if1 .taken)
 
 returns-2 : tie.Need-returns-2
-returns-2 c = search needs
+returns-2 c = wire-other _ (c .before .before .before .before .before .before .before .args .l) _ _ _ _ (c .before .before .before .before .put-wire .ensures) (c .before .same .ensures) (c .if1 .left)
 
 pub as-wire-spec : {M : Type 1} → statement M
 as-wire-spec =

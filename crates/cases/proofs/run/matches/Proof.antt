@@ -1,8 +1,4 @@
--- Each test passed gives its part. Assumes nothing.
-use mathlib.Core.Path.{_∙_}
-use mathlib.Core.Bool.{false≢true}
-use borrow.Author.Tests.{not-false}
-use Rattle.cases.proofs.MatchLaws.{fronts}
+use Rattle.cases.proofs.MatchLaws.{other-answer, other-count, other-bytes, right-bytes}
 use borrow.Author.Needs.{needs}
 use Rattle.cases.proofs.run.matches.Statement.{statement}
 use Rattle.cases.proofs.run.matches.Tie as tie
@@ -11,10 +7,10 @@ same-answer-requires : tie.Need-same-answer-requires
 same-answer-requires c κs = search needs
 
 returns : tie.Need-returns
-returns c = λ t. absurd (false≢true t)
+returns c = other-answer _ _ _ _ _ _ (c .before .same-answer .ensures) (c .if1 .taken)
 
 returns-2 : tie.Need-returns-2
-returns-2 c = λ t. absurd (false≢true t)
+returns-2 c = other-count _ _ _ _ _ _ (c .before .before .before .same-answer .ensures) (c .before .before .if1 .left) (c .if2 .taken)
 
 within-requires : tie.Need-within-requires
 within-requires c κs = search needs
@@ -26,13 +22,34 @@ same-requires : tie.Need-same-requires
 same-requires c κs = search needs
 
 returns-3 : tie.Need-returns-3
-returns-3 c = λ t. absurd (false≢true t)
+returns-3 c = other-bytes _ _ _ _ _ _ (c .before .before .before .before .before .before .before .same-answer .ensures) (c .before .before .before .before .before .before .if1 .left) (c .before .before .before .before .if2 .left) _ (c .before .before .before .within .ensures .1) _ (c .before .same .ensures) (c .if3 .taken)
 
-keeps-rest-requires : tie.Need-keeps-rest-requires
-keeps-rest-requires c κs = search needs
+within-requires-2 : tie.Need-within-requires-2
+within-requires-2 c κs = search needs
+
+sub-same : tie.Need-sub-same
+sub-same c = search needs
+
+part-same-start : tie.Need-part-same-start
+part-same-start c = search needs
+
+part-same-end : tie.Need-part-same-end
+part-same-end c = search needs
+
+sub-same-2 : tie.Need-sub-same-2
+sub-same-2 c = search needs
+
+part-same-start-2 : tie.Need-part-same-start-2
+part-same-start-2 c = search needs
+
+part-same-end-2 : tie.Need-part-same-end-2
+part-same-end-2 c = search needs
+
+same-requires-2 : tie.Need-same-requires-2
+same-requires-2 c κs = search needs
 
 returns-4 : tie.Need-returns-4
-returns-4 c = λ t. record { answered = (c .before .before .before .before .before .before .before .before .same-answer .ensures .0) (not-false _ (c .before .before .before .before .before .before .before .if1 .left)); counted = (c .before .before .before .before .before .if2 .left); sent = fronts _ _ _ ((c .before .before .before .before .within .ensures .1)) ((c .before .before .same .ensures .0) (not-false _ (c .before .if3 .left))) }
+returns-4 c = right-bytes _ _ _ _ _ _ (c .before .before .before .before .before .before .before .before .before .before .before .same-answer .ensures) (c .before .before .before .before .before .before .before .before .before .before .if1 .left) (c .before .before .before .before .before .before .before .before .if2 .left) _ (c .before .before .before .before .before .before .before .within .ensures .1) _ (c .before .before .before .before .before .same .ensures) (c .before .before .before .before .if3 .left) _ (c .before .before .before .within2 .ensures .1) _ (c .same2 .ensures)
 
 pub matches-spec : {M : Type 1} → statement M
 matches-spec =
@@ -45,5 +62,12 @@ matches-spec =
     slice-aggregate-same
     same-requires
     returns-3
-    keeps-rest-requires
+    within-requires-2
+    sub-same
+    part-same-start
+    part-same-end
+    sub-same-2
+    part-same-start-2
+    part-same-end-2
+    same-requires-2
     returns-4)

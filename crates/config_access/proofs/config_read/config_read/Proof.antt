@@ -1,6 +1,5 @@
-use mathlib.Core.Path.{refl}
 use denote.Ref.{now}
-use Rattle.model.specs.Calls.{configRead, outputOf}
+use Rattle.model.specs.Calls.{configRead}
 use Rattle.card.proofs.CallsFor.{refused-unsound}
 use Rattle.config_access.proofs.ReadFor.{config-read-refused, config-read-asks, config-read-value}
 use borrow.Author.Needs.{needs}
@@ -14,8 +13,7 @@ refused-requires : tie.Need-refused-requires
 refused-requires c κs = search needs
 
 returns : tie.Need-returns
-unfolding outputOf
-returns c = refused-unsound (c .before .before .before .before .before .before .args .card) (now (c .before .before .before .before .before .before .args .table)) (now (c .before .before .before .before .before .before .args .pending)) _ (configRead (c .before .before .before .before .before .before .args .offset) (c .before .before .before .before .before .before .args .width)) refl _ (c .before .before .before .check .ensures .1) _ (c .before .if1 .taken) (c .refused .ensures)
+returns c = refused-unsound (c .before .before .before .before .before .before .args .card) (now (c .before .before .before .before .before .before .args .table)) (now (c .before .before .before .before .before .before .args .pending)) (configRead (c .before .before .before .before .before .before .args .offset) (c .before .before .before .before .before .before .args .width)) _ (c .before .before .before .check .ensures .1) _ (c .before .if1 .taken) (c .refused .ensures)
 
 bad-config-requires : tie.Need-bad-config-requires
 bad-config-requires c κs = search needs

@@ -1,9 +1,10 @@
 use denote.Ref.{now}
 use mathlib.Core.Path.{refl, sym, _∙_}
 use Rattle.model.specs.World.{worldOf}
+use Rattle.model.proofs.AccessCalls.{config-writes, config-refused}
 use Rattle.card.proofs.SoundFor.{is-sound-now}
 use Rattle.card.proofs.CallsFor.{refused-unsound, refused-row}
-use Rattle.config_access.proofs.ConfigFor.{config-output, config-row, config-fits, config-ready, config-step}
+use Rattle.config_access.proofs.ConfigFor.{config-fits, config-ready, config-step}
 use borrow.Author.Needs.{needs}
 use Rattle.config_access.proofs.config_write.config_write.Statement.{statement}
 use Rattle.config_access.proofs.config_write.config_write.Tie as tie
@@ -18,7 +19,7 @@ same-length : tie.Need-same-length
 same-length c = search needs
 
 returns : tie.Need-returns
-returns c = refused-unsound _ _ _ _ _ (config-output _ _ _ _) _ (c .before .before .before .check .ensures .1) _ (c .before .if1 .taken) (c .refused .ensures)
+returns c = refused-unsound _ _ _ _ _ (c .before .before .before .check .ensures .1) _ (c .before .if1 .taken) (c .refused .ensures)
 
 bad-config-requires : tie.Need-bad-config-requires
 bad-config-requires c κs = search needs
@@ -30,7 +31,7 @@ same-length-2 : tie.Need-same-length-2
 same-length-2 c = search needs
 
 returns-2 : tie.Need-returns-2
-returns-2 c = refused-row _ _ _ _ _ (config-output _ _ _ _) _ (c .before .before .before .before .before .check .ensures .1) (c .before .before .before .if1 .left) _ _ (config-row _ _ _ _ _ (sym (c .before .before .bad-config .ensures) ∙ (c .before .if2 .taken))) refl (c .refused2 .ensures)
+returns-2 c = refused-row _ _ _ _ _ (c .before .before .before .before .before .check .ensures .1) (c .before .before .before .if1 .left) _ _ (config-refused _ _ _ _ (config-writes _ _) (sym (c .before .before .bad-config .ensures) ∙ (c .before .if2 .taken))) refl (c .refused2 .ensures)
 
 config-written-requires : tie.Need-config-written-requires
 config-written-requires c κs = config-fits _ (now (c .before .before .before .before .before .before .before .before .before .before .before .args .table)) (now (c .before .before .before .before .before .before .before .before .before .before .before .args .pending)) _ _ _ (c .before .before .before .before .before .before .check .ensures .0) (is-sound-now (worldOf (c .before .before .before .before .before .before .before .before .before .before .before .args .card) (now (c .before .before .before .before .before .before .before .before .before .before .before .args .table)) (now (c .before .before .before .before .before .before .before .before .before .before .before .args .pending))) _ (c .before .before .before .before .before .before .check .ensures .1) (c .before .before .before .before .if1 .left)) (sym (c .before .before .before .bad-config .ensures) ∙ (c .before .before .if2 .left))

@@ -1,9 +1,10 @@
 use denote.Ref.{now}
 use mathlib.Core.Path.{refl, _∙_}
 use Rattle.model.specs.World.{worldOf}
+use Rattle.model.proofs.EventCalls.{event-refused}
 use Rattle.card.proofs.SoundFor.{is-sound-now, fits-now}
 use Rattle.card.proofs.CallsFor.{refused-unsound, refused-row}
-use Rattle.interrupt.proofs.EventFor.{event-output, event-row, event-lost, event-fits, event-raised}
+use Rattle.interrupt.proofs.EventFor.{event-lost, event-fits, event-raised}
 use borrow.Author.Needs.{needs}
 use Rattle.interrupt.proofs.event.event.Statement.{statement}
 use Rattle.interrupt.proofs.event.event.Tie as tie
@@ -18,7 +19,7 @@ same-length : tie.Need-same-length
 same-length c = search needs
 
 returns : tie.Need-returns
-returns c = refused-unsound _ _ _ _ _ (event-output _ _) _ (c .before .before .before .check .ensures .1) _ (c .before .if1 .taken) (c .refused .ensures)
+returns c = refused-unsound _ _ _ _ _ (c .before .before .before .check .ensures .1) _ (c .before .if1 .taken) (c .refused .ensures)
 
 refused-requires-2 : tie.Need-refused-requires-2
 refused-requires-2 c κs = search needs
@@ -27,7 +28,7 @@ same-length-2 : tie.Need-same-length-2
 same-length-2 c = search needs
 
 returns-2 : tie.Need-returns-2
-returns-2 c = refused-row _ _ _ _ _ (event-output _ _) _ (c .before .before .before .before .check .ensures .1) (c .before .before .if1 .left) _ _ (event-row _ _ _ (c .before .if2 .taken)) refl (c .refused2 .ensures)
+returns-2 c = refused-row _ _ _ _ _ (c .before .before .before .before .check .ensures .1) (c .before .before .if1 .left) _ _ (event-refused _ _ _ (c .before .if2 .taken)) refl (c .refused2 .ensures)
 
 mode-requires : tie.Need-mode-requires
 mode-requires c κs = fits-now (worldOf (c .before .before .before .before .before .before .before .before .before .before .before .args .t1) (now (c .before .before .before .before .before .before .before .before .before .before .before .args .table)) (now (c .before .before .before .before .before .before .before .before .before .before .before .args .pending))) _ _ (c .before .before .before .before .before .before .check .ensures .1) (c .before .before .before .before .before .before .check .ensures .0) (c .before .before .before .before .if1 .left)

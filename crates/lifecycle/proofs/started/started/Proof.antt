@@ -1,5 +1,6 @@
 use denote.Ref.{now}
-use Rattle.lifecycle.proofs.StartFor.{table-room, started-is}
+use Rattle.model.proofs.FitLaws.{table-room}
+use Rattle.lifecycle.proofs.StartFor.{started-is}
 use borrow.Author.Needs.{needs}
 use Rattle.lifecycle.proofs.started.started.Statement.{statement}
 use Rattle.lifecycle.proofs.started.started.Tie as tie

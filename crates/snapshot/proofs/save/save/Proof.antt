@@ -2,7 +2,7 @@ use denote.Ref.{now}
 use mathlib.Core.Path.{_≡_}
 use lib.ListN.{length}
 use Rattle.card.proofs.CallsFor.{refused-unsound}
-use Rattle.snapshot.proofs.SaveFor.{save-output, size-fits, save-room, save-short, save-accepted}
+use Rattle.snapshot.proofs.SaveFor.{size-fits, save-room, save-short, save-accepted}
 use borrow.Author.Needs.{needs}
 use Rattle.snapshot.proofs.save.save.Statement.{statement}
 use Rattle.snapshot.proofs.save.save.Tie as tie
@@ -21,7 +21,7 @@ refused-requires : tie.Need-refused-requires
 refused-requires c κs = search needs
 
 returns : tie.Need-returns
-returns c = refused-unsound _ _ _ _ _ (save-output _) _ (c .before .before .before .check .ensures .1) _ (c .before .if1 .taken) (c .refused .ensures)
+returns c = refused-unsound _ _ _ _ _ (c .before .before .before .check .ensures .1) _ (c .before .if1 .taken) (c .refused .ensures)
 
 new-requires : tie.Need-new-requires
 new-requires c κs = search needs

@@ -1,8 +1,8 @@
 -- Its parts, each by its own function. Assumes nothing.
 use mathlib.Core.Path.{_≡_}
-use Prim.Native.Nat.{_*_, _/_, _<_}
+use Prim.Native.Nat.{ℕ, _-_, _*_, _/_, _%_, _≤_, _<_}
 use native.Mathlib.Omega.{arith}
-use native.Mathlib.Nat.{div-mul-le-self}
+use native.Mathlib.Nat.{div-add-mod'}
 use lib.ListN.{length}
 use denote.Ref.{now}
 use borrow.Author.Needs.{needs}
@@ -13,14 +13,23 @@ use Rattle.vectors.proofs.message.msi_base.Statement.{statement}
 use Rattle.vectors.proofs.message.msi_base.Tie as tie
 
 -- the low bits are taken off
-small : (c : tie.After-msi-data) → c .msi-data .result / c .before .granted .result * c .before .granted .result < 65536
-small c = omega (arith, div-mul-le-self (c .msi-data .result) (c .before .granted .result), c .msi-data .ensures .1)
+low-bits : (x g : ℕ) → x - x % g ≡ x / g * g
+low-bits x g = omega (arith, div-add-mod' x g)
+
+low-le : (x g : ℕ) → x % g ≤ x
+low-le x g = omega (arith, div-add-mod' x g)
+
+small : (x g : ℕ) → x < 65536 → x - x % g < 65536
+small x g h = omega arith
 
 granted-requires : tie.Need-granted-requires
 granted-requires c κs = search needs
 
 msi-data-requires : tie.Need-msi-data-requires
 msi-data-requires c κs = search needs
+
+rem-low : tie.Need-rem-low
+rem-low c = search needs
 
 msi-upper-requires : tie.Need-msi-upper-requires
 msi-upper-requires c κs = search needs
@@ -34,17 +43,18 @@ word32-requires c κs =
     let n : length (now (a .args .c)) ≡ 256 = search needs in
     omega (arith, n, a .pre, size-large (a .args .s))
 
-div-t10 : tie.Need-div-t10
-div-t10 c = search needs
-
-mul-t11 : tie.Need-mul-t11
-mul-t11 c = omega (arith, small (c .before .before .before .before))
+sub-t11 : tie.Need-sub-t11
+sub-t11 c =
+    let d = c .before .before .before .before in
+    omega (arith, low-le (d .msi-data .result) (d .before .granted .result))
 
 returns : tie.Need-returns
 unfolding msiBase msiAddress
 returns c =
-    let d = c .before .before .before .before in
-    (λ t. rw (c .before .before .before .msi-upper .ensures t, c .word32 .ensures, d .msi-data .ensures .0 t, d .before .granted .ensures .0 t), small d)
+    let d = c .before .before .before .before in (
+      λ t. rw (c .before .before .before .msi-upper .ensures t, c .word32 .ensures, low-bits, d .msi-data .ensures .0 t, d .before .granted .ensures .0 t),
+      small _ _ (d .msi-data .ensures .1),
+    )
 
 pub msi-base-spec : {M : Type 1} → statement M
 msi-base-spec =
@@ -52,9 +62,9 @@ msi-base-spec =
     (tie.spec
     granted-requires
     msi-data-requires
+    rem-low
     msi-upper-requires
     add-word32
     word32-requires
-    div-t10
-    mul-t11
+    sub-t11
     returns)
