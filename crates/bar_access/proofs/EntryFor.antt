@@ -10,9 +10,8 @@ use borrow.Author.Tests.{not-true, not-false}
 use Rattle.words.specs.Lists.{within}
 use Rattle.words.specs.Bytes.{byte, bytesOf}
 use Rattle.words.specs.Writers.{over}
-use Rattle.words.proofs.BoolLaws.{same-test}
 use Rattle.words.proofs.ByteLaws.{length-bytesOf}
-use Rattle.words.proofs.ListLaws.{within-true, true-within}
+use Rattle.words.proofs.ListLaws.{within-shift}
 use Rattle.model.specs.declared.Mode.the-variants.{Msix}
 use Rattle.model.specs.declared.Shape.{Shape}
 use Rattle.model.specs.World.{Endpoint, withWaiting}
@@ -29,11 +28,10 @@ use Rattle.bar_access.specs.Entries.{IsEntry}
 
 -- n bytes at place `at` of the table, and at place `at` % 16 of the entry
 module _ (at n : ℕ) where
-  reached : (i : ℕ) → i < 16 → within (at % 16) n i ≡ within at n (16 * (at / 16) + i)
-  reached i h =
-      same-test (within (at % 16) n i) (within at n (16 * (at / 16) + i))
-      (λ e. let t = within-true (at % 16) n i e in true-within at n (16 * (at / 16) + i) (omega arith) (omega arith))
-      (λ e. let t = within-true at n (16 * (at / 16) + i) e in true-within (at % 16) n i (omega arith) (omega arith))
+  reached : (i : ℕ) → within (at % 16) n i ≡ within at n (16 * (at / 16) + i)
+  reached i =
+      let e : 16 * (at / 16) + at % 16 ≡ at = omega arith in
+      within-shift (16 * (at / 16)) (at % 16) n i ∙ ap (λ (k : ℕ). within k n (16 * (at / 16) + i)) e
 
   -- e holds the entry before the write
   entry-written : (t e : List ℕ) (x : ℕ) → IsEntry e t (at / 16) → 16 ≤ length e → 16 * (at / 16) + 16 ≤ length t
@@ -41,7 +39,7 @@ module _ (at n : ℕ) where
   entry-written t e x same he ht i h =
       let k : ℕ = 16 * (at / 16) + i in
       let j : i - at % 16 ≡ k - at = omega arith in
-      let r : within (at % 16) (length (bytesOf n x)) i ≡ within at (length (bytesOf n x)) k = rw (length-bytesOf n x) (reached i h) in
+      let r : within (at % 16) (length (bytesOf n x)) i ≡ within at (length (bytesOf n x)) k = rw (length-bytesOf n x) (reached i) in
       byte-written entryWritable e (at % 16) (bytesOf n x) i (omega arith)
       ∙ rw (same i h, r, sym (entry-writable (at / 16) i), j) (sym (byte-written entryWritable t at (bytesOf n x) k (omega arith)))
 

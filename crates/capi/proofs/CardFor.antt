@@ -17,7 +17,7 @@ use Rattle.model.specs.Image.{cardBytes}
 use Rattle.image.specs.Held.{cardIn}
 use Rattle.image.proofs.CardBack.{card-same}
 use Rattle.image.proofs.CardLaws.{card-length}
-use Rattle.image.proofs.FillLaws.{over-all}
+use Rattle.words.proofs.PutLaws.{over-all}
 use Rattle.capi.specs.Crossing.{isCard}
 
 -- ---- the test

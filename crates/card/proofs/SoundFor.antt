@@ -31,9 +31,6 @@ module _ (w : World) (b : Bool) (s : Shape) (e : b ≡ soundEndpoint (shape (w .
 pub is-sound-now : (w : World) (b : Bool) → b ≡ sound w → not b ≡ false → sound w ≡ true
 is-sound-now w b e n = sym e ∙ not-false b n
 
-pub not-sound-now : (w : World) (b : Bool) → b ≡ sound w → not b ≡ true → sound w ≡ false
-not-sound-now w b e n = sym e ∙ not-true b n
-
 pub fits-now : (w : World) (b : Bool) (s : Shape) → b ≡ sound w → s ≡ shape (w .endpoint) → not b ≡ false → FitShape s
 fits-now w b s e z n = rw z (fit-shape (sound-fit w (is-sound-now w b e n)))
 

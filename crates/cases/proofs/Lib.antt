@@ -4,4 +4,4 @@ mod ConfigLaws
 mod DecodeLaws
 mod Front
 mod MatchLaws
-mod PlayLaws
+mod RunLaws

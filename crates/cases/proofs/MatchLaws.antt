@@ -13,23 +13,14 @@ use Rattle.words.specs.Writers.{over}
 use Rattle.words.proofs.BoolLaws.{same-test}
 use Rattle.words.proofs.ListLaws.{same-true, same-refl}
 use Rattle.model.specs.declared.Answer.{Answer}
-use Rattle.model.specs.Play.{kindOf, detailOf, sameAnswer, right}
+use Rattle.model.specs.Calls as Calls
+use Rattle.model.specs.Play.{sameAnswer, right}
+use Rattle.model.proofs.PlayLaws.{other-answer, other-count, by-output}
 use Rattle.card.specs.declared.outcome.Outcome.{Outcome}
 use Rattle.card.specs.Outcomes.{after}
 use Rattle.cases.specs.declared.cases_limits.Saved.{Saved}
 use Rattle.cases.specs.Runs.{sameSaved}
 use Rattle.cases.proofs.BufferLaws.{lent-rest, to-end}
-
--- ---- answers
-
-module _ (a b : Answer) (k l : ℕ) (ek : k ≡ kindOf a) (el : l ≡ kindOf b) where
-  pub other-kind : (k ≡ l → ⊥) → false ≡ sameAnswer a b
-  unfolding sameAnswer
-  other-kind n = rw (ne-eqb (kindOf a) (kindOf b) (λ q. n (ek ∙ q ∙ sym el)))
-
-  pub same-kind : (x y : ℕ) → k ≡ l → x ≡ detailOf a → y ≡ detailOf b → eqb x y ≡ sameAnswer a b
-  unfolding sameAnswer
-  same-kind x y q ex ey = rw (eq-eqb (kindOf a) (kindOf b) (sym ek ∙ q ∙ el), ex, ey)
 
 -- ---- bytes
 
@@ -43,22 +34,22 @@ tells-same b l m t = same-test b (same l m) (λ e. subst (λ (x : List ℕ). sam
 -- ---- an outcome
 
 module _ (o : Outcome) (out fresh bytes : List ℕ) (answer : Answer) (b : Bool) (eb : b ≡ sameAnswer (o .answer) answer) where
-  pub other-answer : not b ≡ true → false ≡ right (after o [] [] out) answer bytes fresh
-  unfolding right
-  other-answer n = rw (sym eb ∙ not-true b n)
+  abbrev given : Calls.Outcome
+  given = after o [] [] out
+
+  pub wrong-answer : not b ≡ true → false ≡ right given answer bytes fresh
+  wrong-answer n = other-answer given answer bytes fresh (sym eb ∙ not-true b n)
 
   module _ (nb : not b ≡ false) where
     answered : sameAnswer (o .answer) answer ≡ true
     answered = sym eb ∙ not-false b nb
 
-    pub other-count : (o .count ≡ length bytes → ⊥) → false ≡ right (after o [] [] out) answer bytes fresh
-    unfolding right
-    other-count n = rw (answered, ne-eqb (o .count) (length bytes) n)
+    pub wrong-count : (o .count ≡ length bytes → ⊥) → false ≡ right given answer bytes fresh
+    wrong-count n = other-count given answer bytes fresh answered n
 
     module _ (ec : o .count ≡ length bytes) (n : ℕ) (en : n ≡ min (o .count) (length out)) (c : Bool) (tc : Tells c (take n out) bytes) where
-      by-output : right (after o [] [] out) answer bytes fresh ≡ same out (over bytes fresh)
-      unfolding right
-      by-output = rw (answered, eq-eqb (o .count) (length bytes) ec)
+      compared : right given answer bytes fresh ≡ same out (over bytes fresh)
+      compared = by-output given answer bytes fresh answered ec
 
       counted : out ≡ over bytes fresh → n ≡ length bytes
       counted q = omega (arith, ap length q ∙ length-append bytes (drop (length bytes) fresh))
@@ -66,11 +57,11 @@ module _ (o : Outcome) (out fresh bytes : List ℕ) (answer : Answer) (b : Bool)
       front : out ≡ over bytes fresh → take n out ≡ bytes
       front q = ap (λ (l : List ℕ). take n l) q ∙ take-at bytes (drop (length bytes) fresh) n (sym (counted q))
 
-      pub other-bytes : not c ≡ true → false ≡ right (after o [] [] out) answer bytes fresh
-      other-bytes m =
-          same-test false _ (λ e. absurd (false≢true e)) (λ e. absurd (false≢true (sym (not-true c m) ∙ tc .1 (front (same-true _ _ (sym by-output ∙ e))))))
+      pub wrong-bytes : not c ≡ true → false ≡ right given answer bytes fresh
+      wrong-bytes m =
+          same-test false _ (λ e. absurd (false≢true e)) (λ e. absurd (false≢true (sym (not-true c m) ∙ tc .1 (front (same-true _ _ (sym compared ∙ e))))))
 
-      pub right-bytes : not c ≡ false → (k : ℕ) → k ≡ min (o .count) (length fresh) → (d : Bool) → Tells d (take (length out - n) (drop n out)) (take (length fresh - k) (drop k fresh)) → d ≡ right (after o [] [] out) answer bytes fresh
+      pub right-bytes : not c ≡ false → (k : ℕ) → k ≡ min (o .count) (length fresh) → (d : Bool) → Tells d (take (length out - n) (drop n out)) (take (length fresh - k) (drop k fresh)) → d ≡ right given answer bytes fresh
       right-bytes m k ek d td =
           let f : take n out ≡ bytes = tc .0 (not-false c m) in
           let g : drop k fresh ≡ drop (length bytes) fresh = lent-rest k (length bytes) fresh (ek ∙ ap (λ (j : ℕ). min j (length fresh)) ec) in
@@ -81,7 +72,7 @@ module _ (o : Outcome) (out fresh bytes : List ℕ) (answer : Answer) (b : Bool)
                 (to-end n out ∙ ap (λ (l : List ℕ). drop n l) q ∙ drop-at bytes (drop (length bytes) fresh) n (sym (counted q)) ∙ sym g
                 ∙ sym (to-end k fresh))),
           )
-          ∙ sym by-output
+          ∙ sym compared
 
 -- ---- images
 

@@ -13,8 +13,8 @@ fn with_word(given: [u8; 256], at: usize, value: u32) -> [u8; 256]
     let mut config = given;
     config[at] = (value % 256) as u8;
     config[at + 1] = (value / 256 % 256) as u8;
-    config[at + 2] = (value / 256 / 256 % 256) as u8;
-    config[at + 3] = (value / 256 / 256 / 256 % 256) as u8;
+    config[at + 2] = (value / 65536 % 256) as u8;
+    config[at + 3] = (value / 16777216 % 256) as u8;
     config
 }
 

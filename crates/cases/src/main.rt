@@ -1,10 +1,10 @@
 // The bench cases of document 01, run on the code. Each call prints a line, and the packets that it sent.
 // This file prints and counts: what a call gives, and whether that is right, is in the modules.
 ghost use mathlib.Core.Path.{_≡_};
+ghost use mathlib.Core.Bool.{cond};
 ghost use Prim.Native.Nat.{_<_, _≤_};
 ghost use lib.ListN.{length};
 ghost use Rattle.io.specs.Counts.{Counts};
-ghost use Rattle.words.specs.Bits.{ofBool};
 ghost use Rattle.cases.specs.Digits.{glyph, glyphs};
 use crate::packet::Level;
 use crate::packet::Message;
@@ -212,7 +212,7 @@ fn state(run: Run) {
 
 // 1 for a case that is as document 01 says.
 fn one(good: bool) -> u64
-    ensures { λ r. ⌜ r ≡ ofBool good ⌝ }
+    ensures { λ r. ⌜ r ≡ cond good 1 0 ⌝ }
 {
     text(b"\n");
     if good { 1 } else { 0 }

@@ -3,18 +3,18 @@ use mathlib.Core.Path.{_≡_, refl, sym, ap, ap₂, _∙_}
 use mathlib.Core.Bool.{Bool, true, false, not, cond, _&&_, false≢true}
 use mathlib.Core.List.{List, [], _∷_}
 use Prim.Native.Nat.{ℕ, _+_, _-_, _*_, _/_, _%_, _^_, _≤_, _<_}
-use native.Mathlib.Nat.{one-mul}
 use native.Mathlib.Omega.{arith}
 use lib.Dec.{ltb, eqb}
 use lib.ListN.{length}
-use lib.Pow.{pow-mono, pow-lt, shl-exact}
-use borrow.Author.Tests.{eq-eqb, ne-eqb, lt-ltb, le-ltb, eqb-true, eqb-false, not-true, not-false}
+use lib.Pow.{pow-mono, pow-lt}
+use borrow.Author.Tests.{eq-eqb, ne-eqb, eqb-true, eqb-false, not-true, not-false}
 use Rattle.words.specs.Lists.{all, count, keep}
 use Rattle.words.specs.Bits.{bit}
 use Rattle.words.proofs.BitLaws.{bits-ext-below, bit-of-zero}
 use Rattle.words.proofs.ListLaws.{keep-nil, count-member}
+use Rattle.words.proofs.LowestLaws.{one-shl}
 use Rattle.words.proofs.OnesLaws.{no-set-bits}
-use Rattle.words.proofs.BoolLaws.{by-test}
+use Rattle.words.proofs.BoolLaws.{by-test, below-one}
 use Rattle.model.specs.declared.Mode.{Mode}
 use Rattle.model.specs.declared.Mode.the-variants.{Pin, Msi, Msix}
 use Rattle.model.specs.declared.Function.{Function}
@@ -32,11 +32,6 @@ use Rattle.endpoint.proofs.SweepFor.{owed-here}
 
 -- ---- MSI's waiting bits
 
-below-one : (x : ℕ) → ltb x 1 ≡ eqb x 0
-below-one x =
-    by-test (eqb x 0) (λ e. lt-ltb x 1 (omega (arith, eqb-true x 0 e)) ∙ sym e)
-    (λ e. le-ltb x 1 (let n : x ≡ 0 → ⊥ = eqb-false x 0 e in omega (arith, n)) ∙ sym e)
-
 -- without MSI there is no bit
 pub no-msi : (waiting : ℕ) (s : Shape) → s .msi .at ≡ 0 → eqb waiting 0 ≡ ltb waiting (2 ^ msiVectors s)
 unfolding msiVectors msiPresent
@@ -47,7 +42,7 @@ msi-count s h = pow-mono h
 
 -- the shifts of the code
 pub shifted-count : (s : Shape) → s .msi .capable ≤ 5 → (1 * 2 ^ (s .msi .capable)) % 2 ^ 64 ≡ 2 ^ (s .msi .capable)
-shifted-count s h = shl-exact 1 (s .msi .capable) 64 (omega arith) (omega arith) ∙ one-mul (2 ^ (s .msi .capable))
+shifted-count s h = one-shl 64 (s .msi .capable) (omega arith)
 
 pub count-small : (s : Shape) → s .msi .capable ≤ 5 → (1 * 2 ^ (s .msi .capable)) % 2 ^ 64 < 64
 count-small s h = omega (arith, shifted-count s h, msi-count s h)
@@ -58,7 +53,7 @@ unfolding msiVectors msiPresent
 with-msi waiting n s p h e =
     let c : n ≡ 2 ^ (s .msi .capable) = e ∙ shifted-count s h in
     let l : n ≤ 32 = omega (arith, msi-count s h) in
-    ap (ltb waiting) (shl-exact 1 n 64 (omega arith) (omega arith) ∙ one-mul (2 ^ n) ∙ ap (λ (k : ℕ). 2 ^ k) c)
+    ap (ltb waiting) (one-shl 64 n (omega arith) ∙ ap (λ (k : ℕ). 2 ^ k) c)
     ∙ rw (ne-eqb (s .msi .at) 0 p)
 
 -- a word of 32 bits is 0 exactly if no bit is set

@@ -35,7 +35,7 @@ use Rattle.vectors.proofs.MsixLaws.{open-msix}
 use Rattle.vectors.proofs.OpenLaws.{owed-msi, owed-shut}
 use Rattle.release.specs.Owed.{setBits, msiPackets, entries, maskedAt, waitsAt, owes, owedEntries, entryMessage, entryPackets, clearPending, Lent, Released}
 use Rattle.release.proofs.OwedLaws.{entries-fit}
-use Rattle.release.proofs.Clearing.{clear-msix, clear-msi, clear-part, clear-nothing}
+use Rattle.release.proofs.Clearing.{clear-msix, clear-msi, clear-nothing}
 use Rattle.endpoint.specs.Sweeps.{bytesFor, sweptFor, Swept}
 
 -- ---- the mechanism in force

@@ -1,13 +1,10 @@
 -- A card's bytes and an image's, how many there are, and what they hold. Assumes nothing.
 use mathlib.Core.Path.{_≡_, refl, ap, _∙_}
-use mathlib.Core.Bool.{Bool, true, false}
 use mathlib.Core.List.{List, [], _++_}
-use Prim.Native.Nat.{ℕ, _+_, _*_, _≤_}
+use Prim.Native.Nat.{ℕ, _+_, _*_}
 use native.Mathlib.Omega.{arith}
 use lib.ListN.{length, length-append}
-use mir.Val.{boolByte}
 use Rattle.words.specs.Lists.{join}
-use Rattle.words.specs.Bits.{ofBool}
 use Rattle.words.specs.Bytes.{bytesOf}
 use Rattle.words.proofs.ByteLaws.{length-join32}
 use Rattle.model.specs.declared.Card.{Card}
@@ -15,17 +12,6 @@ use Rattle.model.specs.World.{worldOf}
 use Rattle.model.specs.Image.{mark, flags, cardBytes, imageOf, functionIn}
 use Rattle.image.specs.Layout.{numberBytes, imageSize}
 use Rattle.image.specs.Held.{functionFrom}
-
--- ---- flags
-
-pub flag-number : (b : Bool) → boolByte b ≡ ofBool b
-unfolding ofBool
-flag-number true = refl
-flag-number false = refl
-
-pub flag-small : (b : Bool) → boolByte b ≤ 1
-flag-small true = omega arith
-flag-small false = omega arith
 
 -- ---- a card's bytes
 

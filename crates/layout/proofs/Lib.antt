@@ -1,4 +1,3 @@
-pub mod Tables
 pub mod Walks
 pub mod Places
 pub mod ShapeFound

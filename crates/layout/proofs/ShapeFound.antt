@@ -6,11 +6,11 @@ use Prim.Native.Nat.{ℕ, suc, _+_, _*_, _/_, _%_, _≤_, _<_}
 use native.Mathlib.Nat.{div-one}
 use native.Mathlib.Omega.{arith}
 use lib.Dec.{eqb}
-use lib.ListN.{length, List·getD-eq-default}
+use lib.ListN.{length}
 use borrow.Author.Tests.{ne-eqb}
 use Rattle.words.specs.Bits.{bit, field}
-use Rattle.words.specs.Bytes.{byte, bitAt, number, word32}
-use Rattle.words.proofs.ByteLaws.{number-same, number-lt}
+use Rattle.words.specs.Bytes.{byte, bitAt}
+use Rattle.words.proofs.ByteLaws.{word32-lt}
 use Rattle.model.specs.Capabilities.{capabilities, listed, withId}
 use Rattle.model.specs.Shape.{msiAt, msixAt, regionAt, noMsi, noMsix, msiOf, msixOf, shapeIn, shapeOf}
 use Rattle.model.specs.declared.MsiShape.{MsiShape}
@@ -29,11 +29,6 @@ abbrev msixShape : ℕ → ℕ → Region → Region → MsixShape
 msixShape at vectors table pending = record { at = at; vectors = vectors; table = table; pending = pending }
 
 module _ (c : List ℕ) where
-  -- past the end
-  pub word-past : (at : ℕ) → length c ≤ at → word32 c at ≡ 0
-  unfolding word32 number
-  word-past at h = number-same (byte c) (λ _. 0) at 4 (λ k a b. List·getD-eq-default c 0 (omega arith))
-
   -- ---- a capability from the two bytes of its control register
 
   pub msi-read : (a low high : ℕ) → low ≡ byte c (a + 2) → high ≡ byte c (a + 3)
@@ -79,10 +74,6 @@ module _ (c : List ℕ) (bytes : (i : ℕ) → byte c i < 256) where
   unfolding listingOf listingIn
   found-places l e = rw e (first-place c bytes 0x05, first-place c bytes 0x11)
 
-  word-lt : (at : ℕ) → word32 c at < 4294967296
-  unfolding word32
-  word-lt at = number-lt (byte c) at 4 bytes
-
   msi-bounds : (l : List ℕ) → Place (foundOf l .first) → (msiOf c l .at < 253) × (msiOf c l .capable < 8)
   unfolding foundOf msiOf noMsi msiAt field
   msi-bounds [] p = (omega arith, omega arith)
@@ -98,9 +89,9 @@ module _ (c : List ℕ) (bytes : (i : ℕ) → byte c i < 256) where
     p .below,
     omega (arith, bytes (a + 2)),
     omega arith,
-    omega (arith, word-lt (a + 4)),
+    omega (arith, word32-lt c (a + 4) bytes),
     omega arith,
-    omega (arith, word-lt (a + 8)),
+    omega (arith, word32-lt c (a + 8) bytes),
   )
 
   pub shape-bounded : Bounded (shapeOf c)

@@ -49,3 +49,4 @@ pub mod RestoreCalls
 pub mod AnswerLaws
 pub mod OutcomeLaws
 pub mod EntryLaws
+pub mod PlayLaws

@@ -5,7 +5,7 @@ use mathlib.Core.List.{List, [], _∷_, _++_}
 use Prim.Native.Nat.{ℕ, zero, suc, _+_, _-_, _*_, _/_, _%_, _≤_, _<_}
 use native.Mathlib.Omega.{arith}
 use lib.Bits.{bitAnd, and-zero-r}
-use lib.Dec.{ltb, leb, eqb}
+use lib.Dec.{ltb, eqb}
 use lib.ListN.{length, replicate}
 use borrow.Author.Tests.{eqb-true, eq-eqb, ne-eqb, le-ltb, lt-leb}
 use Rattle.words.specs.Lists.{within, firstOf, allAt}
@@ -13,7 +13,7 @@ use Rattle.words.specs.Bits.{bit, clear, merge}
 use Rattle.words.specs.Bytes.{byte}
 use Rattle.words.proofs.BitLaws.{bits-ext, bit-and, bit-clear, bit-merge, bit-of-zero}
 use Rattle.words.proofs.BoolLaws.{both, and-intro, by-test, cond-elim}
-use Rattle.words.proofs.ListLaws.{within-true, all-at, at-all}
+use Rattle.words.proofs.ListLaws.{within-true, not-within, all-at, at-all}
 use Rattle.model.specs.declared.Form.{Form}
 use Rattle.model.specs.declared.Shape.{Shape}
 use Rattle.model.specs.Shape.{formOf, forms}
@@ -61,10 +61,6 @@ masked-form s e = rw e (go (s .msi .wide))
     go : (w : Bool) → Masked (forms true w)
     go false = record { behind = omega arith; free = omega arith; next = refl }
     go true = record { behind = omega arith; free = omega arith; next = refl }
-
-pub not-within : (lo n k : ℕ) → lo + n ≤ k → within lo n k ≡ false
-unfolding within
-not-within lo n k h = by-test (leb lo k) (λ e. rw (e, le-ltb k (lo + n) h)) (λ e. rw e)
 
 and-no-right : (a b : Bool) → b ≡ false → (a && b) ≡ false
 and-no-right true b e = e

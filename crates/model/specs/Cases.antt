@@ -12,27 +12,27 @@ use Rattle.model.specs.Play.{Expect, Case, Played, fresh, played, played
 -- ---- configurations
 
 -- bytes put at a place of a list
-unfoldable pub put : ℕ → List ℕ → List ℕ → List ℕ
+abbrev pub put : ℕ → List ℕ → List ℕ → List ℕ
 put i [] l = l
 put i (b ∷ bs) l = put (suc i) bs (set l i b)
 
 -- no capability, and a pin
-unfoldable pub header : ℕ → List ℕ
+abbrev pub header : ℕ → List ℕ
 header pin = set (replicate 256 0) 0x3d pin
 
 -- pin 1, and a list whose first capability is at 40h
-unfoldable pub listed : List ℕ
+abbrev pub listed : List ℕ
 listed = set (set (header 1) 0x06 0x10) 0x34 0x40
 
 -- MSI, Capable 3: 32-bit, and 64-bit with masks
-unfoldable pub msiCard : List ℕ
+abbrev pub msiCard : List ℕ
 msiCard = put 0x40 (bytesOf 4 0x00060005) listed
 
-unfoldable pub wideMsiCard : List ℕ
+abbrev pub wideMsiCard : List ℕ
 wideMsiCard = put 0x40 (bytesOf 4 0x01860005) listed
 
 -- MSI-X with n vectors, the next capability, and the words of its table and its pending array: an offset, and a BAR in the low three bits
-unfoldable pub msixCard : (link n table pending : ℕ) → List ℕ
+abbrev pub msixCard : (link n table pending : ℕ) → List ℕ
 msixCard link n table pending =
     put 0x48 (bytesOf 4 pending) (put 0x44 (bytesOf 4 table) (put 0x40 (bytesOf 4 ((n - 1) * 65536 + link * 256 + 0x11)) listed))
 
@@ -185,7 +185,7 @@ shortOutput = msiCase 4 0x49a0 2 (raises 1 15 (Refused 6) [] ∷ raises 1 16 Sen
 abbrev pub caseOneCard : Played
 caseOneCard = playedAll (begun msiCard (sizesOf 0 0) 4 0 Done) (msiSteps 0x49a0 2)
 
-unfoldable pub shortKeeps : Bool
+abbrev pub shortKeeps : Bool
 shortKeeps = sameImage (imageTaken (caseOneCard .world)) (imageTaken (played caseOneCard (raises 1 15 (Refused 6) []) .world))
 
 -- a table of 64 bytes from 40h of BAR 0 on, and a pending array that fills BAR 1
@@ -200,7 +200,7 @@ limits =
 -- ---- for the errors that tempt
 
 -- MSI-X at 40h, and MSI at 50h
-unfoldable pub bothCard : List ℕ
+abbrev pub bothCard : List ℕ
 bothCard = put 0x50 (bytesOf 4 0x00060005) (msixCard 0x50 2 0 0x1000)
 
 -- the wire with bus mastering off; what a reset leaves of a waiting vector; MSI-X over MSI with both on; a 64-bit form's data at 0Ch, its masks at 10h

@@ -28,7 +28,7 @@ pub record Case : Type 0 where
 -- ---- answers
 
 -- a number for each kind of answer
-unfoldable pub kindOf : Answer → ℕ
+abbrev pub kindOf : Answer → ℕ
 kindOf (Refused n) = 0
 kindOf Done = 1
 kindOf (Value x) = 2
@@ -38,7 +38,7 @@ kindOf Merged = 5
 kindOf Lost = 6
 
 -- the number of a refusal, the value of a read
-unfoldable pub detailOf : Answer → ℕ
+abbrev pub detailOf : Answer → ℕ
 detailOf (Refused n) = n
 detailOf Done = 0
 detailOf (Value x) = x
@@ -76,7 +76,7 @@ playedAll p [] = p
 playedAll p (x ∷ l) = playedAll (played p x) l
 
 -- lent buffers for n vectors
-unfoldable pub lent : ℕ → World
+abbrev pub lent : ℕ → World
 lent n = record { endpoint = endpointOf zeroFunction (fresh (16 * n)) (fresh (8 * ((n + 63) / 64))); wire = false }
 
 -- a start with requester 0100h that should answer so
@@ -93,9 +93,9 @@ allPass [] = true
 allPass (k ∷ l) = passes k && allPass l
 
 -- the image of a card without MSI-X
-unfoldable pub imageTaken : World → Outcome
+abbrev pub imageTaken : World → Outcome
 imageTaken w = step w (save (fresh 294))
 
 -- two images are there, whole, and equal
-unfoldable pub sameImage : (a b : Outcome) → Bool
+abbrev pub sameImage : (a b : Outcome) → Bool
 sameImage a b = eqb (a .count) 294 && eqb (b .count) 294 && same (a .output) (b .output)

@@ -6,7 +6,7 @@ use Prim.Native.Nat.{ℕ, _+_, _%_, _≤_}
 use native.Mathlib.Omega.{arith}
 use lib.Dec.{ltb, eqb}
 use borrow.Author.Tests.{eqb-true, ltb-false, not-false}
-use Rattle.words.proofs.BoolLaws.{neither, by-test}
+use Rattle.words.proofs.BoolLaws.{neither, by-test, one-of}
 use Rattle.model.specs.declared.Shape.{Shape}
 use Rattle.model.specs.Capabilities.{capabilities, listed, withId}
 use Rattle.model.specs.Shape.{shapeOf, shapeIn, msixOf, noMsix, msixAt, regionAt}
@@ -28,9 +28,6 @@ aligned c = go (withId c (listed (capabilities c)) 0x11)
     go (a ∷ l) = record { table = omega arith; pending = omega arith }
 
 -- ---- accesses that are not refused
-
-one-of : {P : Type 0} (n a : ℕ) (rest : Bool) → (eqb n a || rest) ≡ true → (n ≡ a → P) → (rest ≡ true → P) → P
-one-of n a rest e f g = by-test (eqb n a) (λ t. f (eqb-true n a t)) (λ t. g (rw t at e))
 
 multiple : (o n m : ℕ) → o % n ≡ 0 → n ≡ m → o % m ≡ 0
 multiple o n m e d = rw d at e

@@ -7,9 +7,9 @@ use native.Mathlib.Omega.{arith}
 use lib.Dec.{eqb}
 use Rattle.words.specs.Lists.{within}
 use Rattle.words.specs.Bytes.{byte, number}
-use Rattle.words.proofs.BoolLaws.{both, same-test}
+use Rattle.words.proofs.BoolLaws.{both}
 use Rattle.words.proofs.ByteLaws.{number-shift, number-same}
-use Rattle.words.proofs.ListLaws.{within-true, true-within}
+use Rattle.words.proofs.ListLaws.{aligned-inside, aligned-same}
 use Rattle.model.specs.declared.Shape.{Shape}
 use Rattle.model.specs.Shape.{msixPresent, tableBytes, pendingBytes}
 use Rattle.model.specs.World.{Endpoint}
@@ -26,30 +26,20 @@ pub bar-value-buffers : (s : Shape) (u v : Endpoint) → u .table ≡ v .table �
     → (b o n : ℕ) → number (barByte s u b) o n ≡ number (barByte s v b) o n
 bar-value-buffers s u v e d b o n = number-same (barByte s u b) (barByte s v b) o n (λ k h j. bar-buffers s u v e d b k)
 
--- ---- n bytes from o on that cross no multiple of 8, and m bytes at a
+-- ---- n bytes from o on that cross no multiple of 8
 
 module _ (o n : ℕ) (w : o % 8 + n ≤ 8) where
-  module _ (a m : ℕ) (ha : a % 8 ≡ 0) (hm : m % 8 ≡ 0) where
-    -- the access lies inside where its first byte does
-    inside : within a m o ≡ true → (a ≤ o) × (o - a + n ≤ m)
-    inside e = let t = within-true a m o e in (t .0, omega arith)
-
-    -- each of its bytes lies where its first does
-    whole : (k : ℕ) → k < n → within a m (o + k) ≡ within a m o
-    whole k h =
-        same-test (within a m (o + k)) (within a m o)
-        (λ e. let t = within-true a m (o + k) e in true-within a m o (omega arith) (omega arith))
-        (λ e. let t = within-true a m o e in true-within a m (o + k) (omega arith) (omega arith))
-
-    -- of a structure that may be absent
-    region-inside : (present : Bool) (bar b : ℕ) → (present && (eqb b bar && within a m o)) ≡ true → (a ≤ o) × (o - a + n ≤ m)
-    region-inside present bar b e = inside (both (eqb b bar) (within a m o) (both present (eqb b bar && within a m o) e .1) .1)
+  -- a structure of m bytes at a, which may be absent
+  region-inside : (a m : ℕ) → a % 8 ≡ 0 → m % 8 ≡ 0
+      → (present : Bool) (bar b : ℕ) → (present && (eqb b bar && within a m o)) ≡ true → (a ≤ o) × (o - a + n ≤ m)
+  region-inside a m ha hm present bar b e =
+      aligned-inside o n w a m ha hm (both (eqb b bar) (within a m o) (both present (eqb b bar && within a m o) e .1) .1)
 
   module _ (s : Shape) (al : Aligned s) (b : ℕ) where
     table-whole : (k : ℕ) → k < n → inTable s b (o + k) ≡ inTable s b o
     unfolding inTable inRegion tableBytes
     table-whole k h =
-        ap (λ (t : Bool). msixPresent s && (eqb b (s .msix .table .bar) && t)) (whole (s .msix .table .at) (tableBytes s) (al .table) (omega arith) k h)
+        ap (λ (t : Bool). msixPresent s && (eqb b (s .msix .table .bar) && t)) (aligned-same o n w (s .msix .table .at) (tableBytes s) (al .table) (omega arith) k h)
 
     pub table-inside : inTable s b o ≡ true → (s .msix .table .at ≤ o) × (o - s .msix .table .at + n ≤ tableBytes s)
     unfolding inTable inRegion tableBytes

@@ -13,9 +13,10 @@ use Rattle.words.specs.Lists.{all, count, firstOf}
 use Rattle.words.specs.Bytes.{byte, number, word64}
 use Rattle.words.proofs.BoolLaws.{by-test}
 use Rattle.words.proofs.ByteLaws.{number-shift}
+use Rattle.words.proofs.ListLaws.{all-count}
+use Rattle.words.proofs.ZeroBits.{or-none, or-masked, clean, clean-word}
 use Rattle.model.specs.Registers.{entryZero, startedTable}
 use Rattle.model.proofs.TableLaws.{length-table, byte-table}
-use Rattle.registers.proofs.CleanLaws.{or-none, or-masked, all-count, clean, clean-word}
 
 -- ---- the bits that read 0, eight bytes at once
 

@@ -1,52 +1,20 @@
 -- The masks of the configuration's bytes, as the code tests for them. Assumes nothing.
 use mathlib.Core.Path.{_≡_, refl, sym, ap, _∙_}
 use mathlib.Core.Bool.{Bool, true, false, not, cond, _&&_, _||_, or-false, true≢false}
-use Prim.Native.Nat.{ℕ, zero, suc, _+_, _-_, _*_, _/_, _%_, _^_, _≤_, _<_}
-use native.Mathlib.Nat.{div-one}
+use Prim.Native.Nat.{ℕ, _+_, _-_, _≤_, _<_}
 use native.Mathlib.Omega.{arith}
 use lib.Dec.{ltb, eqb}
-use lib.Bits.{and-mask}
-use lib.Pow.{shr-shr}
-use borrow.Author.Tests.{ne-eqb, eqb-true, lt-ltb, le-ltb, le-leb, ltb-true, ltb-false, not-false}
+use borrow.Author.Tests.{ne-eqb, eqb-true, lt-ltb, le-ltb, not-false}
 use Rattle.words.specs.Lists.{within, firstOf}
 use Rattle.words.specs.Bits.{clear}
-use Rattle.words.specs.Bytes.{byte, bytesOf}
-use Rattle.words.proofs.BoolLaws.{by-test}
+use Rattle.words.specs.Bytes.{byte}
+use Rattle.words.proofs.BoolLaws.{three-rows}
+use Rattle.words.proofs.ListLaws.{absent-apart, below-more, below-longer}
 use Rattle.model.specs.declared.Form.{Form}
 use Rattle.model.specs.declared.Shape.{Shape}
 use Rattle.model.specs.Shape.{formOf, forms, msiPresent, msixPresent}
 use Rattle.model.specs.Registers.{headerWritable, headerZero, msiWritable, msiZero, msixWritable, maskBytes, inMask, inPendingRegister, inMsi, inMsix, writable, storedZero}
 use Rattle.model.proofs.FitLaws.{size-small}
-
--- byte k of a number
-pub byte-of : (n x k : ℕ) → k < n → byte (bytesOf n x) k ≡ x / 2 ^ (8 * k) % 256
-unfolding bytesOf
-byte-of zero x k h = absurd (omega arith)
-byte-of (suc n) x zero h = rw div-one
-byte-of (suc n) x (suc k) h =
-    let e : 8 + 8 * k ≡ 8 * suc k = omega arith in
-    byte-of n (x / 256) k (omega arith) ∙ ap (λ (y : ℕ). y % 256) (shr-shr x 8 (8 * k) ∙ ap (λ (j : ℕ). x / 2 ^ j) e)
-
--- ---- runs of places
-
-not-below : (n k : ℕ) → n ≤ k → within 0 n k ≡ false
-unfolding within
-not-below n k h = let e : 0 + n ≡ n = omega arith in rw (le-leb 0 k (omega arith), e) (le-ltb k n h)
-
--- what is absent stands at 0, and no place from n on is in its n bytes
-pub absent-apart : (present : Bool) (lo n k : ℕ) → (present ≡ false → lo ≡ 0) → n ≤ k → (present && within lo n k) ≡ within lo n k
-absent-apart true lo n k z h = refl
-absent-apart false lo n k z h = sym (ap (λ (i : ℕ). within i n k) (z refl) ∙ not-below n k h)
-
--- the places below a, and n more
-run-more : (a n k : ℕ) → (ltb k a || within a n k) ≡ ltb k (a + n)
-unfolding within
-run-more a n k =
-    by-test (ltb k a) (λ e. rw e (sym (lt-ltb k (a + n) (omega (arith, ltb-true k a e)))))
-    (λ e. rw (e, le-leb a k (ltb-false k a e)))
-
-run-longer : (a b k : ℕ) → a ≤ b → (ltb k a || ltb k b) ≡ ltb k b
-run-longer a b k h = by-test (ltb k a) (λ e. rw e (sym (lt-ltb k b (omega (arith, ltb-true k a e))))) (λ e. rw e)
 
 -- ---- the four forms
 
@@ -81,15 +49,8 @@ masked s e = rw e (go (s .msi .wide))
 
 -- address, upper address and data have no gap between them
 data-run : (wide : Bool) (k : ℕ) → ((ltb k 8 || (wide && ltb k 12)) || within (cond wide 12 8) 2 k) ≡ ltb k (cond wide 12 8 + 2)
-data-run false k = ap (λ (b : Bool). b || within 8 2 k) (or-false (ltb k 8)) ∙ run-more 8 2 k
-data-run true k = ap (λ (b : Bool). b || within 12 2 k) (run-longer 8 12 k (omega arith)) ∙ run-more 12 2 k
-
--- three rows with the same number
-three-rows : (a b c : Bool) (x y : ℕ) → cond a x (cond b x (cond c x y)) ≡ cond ((a || b) || c) x y
-three-rows true b c x y = refl
-three-rows false true c x y = refl
-three-rows false false true x y = refl
-three-rows false false false x y = refl
+data-run false k = ap (λ (b : Bool). b || within 8 2 k) (or-false (ltb k 8)) ∙ below-more 8 2 k
+data-run true k = ap (λ (b : Bool). b || within 12 2 k) (below-longer 8 12 k (omega arith)) ∙ below-more 12 2 k
 
 -- ---- byte k of the MSI capability
 
@@ -180,11 +141,6 @@ module _ (s : Shape) (f : Form) (e : f ≡ formOf s) (k : ℕ) where
 
   pub pending-register : (b : Bool) → 8 ≤ k → within (f .mask) 4 k ≡ false → within (f .pending) 4 k ≡ b → cond b 0xff 0 ≡ msiZero s k
   pending-register b h w p = sym (high-zero s k h ∙ rw (sym e, w, p))
-
--- the bits that a byte does not have
-pub clear-ones : (m : ℕ) → m < 256 → 0xff - m ≡ clear m 0xff
-unfolding clear
-clear-ones m h = ap (λ (x : ℕ). 0xff - x) (sym (and-mask m 8 ∙ (let e : m % 256 ≡ m = omega arith in e)))
 
 -- from 40h on: n is MSI's length
 module _ (s : Shape) (i n : ℕ) (e : n ≡ formOf s .size) (h : 64 ≤ i) where

@@ -1,6 +1,6 @@
 -- Few parts of the configuration have writable bits or bits stored as 0: a start that fixes those parts fixes all. Assumes nothing.
 use mathlib.Core.Path.{_≡_, refl, sym, ap, _∙_}
-use mathlib.Core.Bool.{Bool, true, false, cond, _&&_, _||_}
+use mathlib.Core.Bool.{Bool, false, cond, _&&_, _||_}
 use mathlib.Core.List.{List}
 use Prim.Native.Nat.{ℕ, _+_, _-_, _≤_, _<_, min, max}
 use native.Mathlib.Omega.{arith}
@@ -12,7 +12,7 @@ use Rattle.words.specs.Lists.{within, firstOf}
 use Rattle.words.specs.Bits.{clear}
 use Rattle.words.specs.Bytes.{byte}
 use Rattle.words.proofs.BitLaws.{clear-none}
-use Rattle.words.proofs.BoolLaws.{same-test, by-test, neither}
+use Rattle.words.proofs.BoolLaws.{same-test, by-test, neither, cond-twice, not-between}
 use Rattle.words.proofs.ListLaws.{within-true}
 use Rattle.model.specs.declared.Shape.{Shape}
 use Rattle.model.specs.Shape.{formOf}
@@ -55,9 +55,6 @@ module _ (s : Shape) (lo : ℕ) (c : List ℕ) where
 
 -- ---- the rest has no such bit
 
-outside : (lo hi k : ℕ) → (leb lo k && ltb k hi) ≡ false → lo ≤ k → hi ≤ k
-outside lo hi k e h = ltb-false k hi (rw (le-leb lo k h) at e)
-
 module _ (s : Shape) (k : ℕ) where
   header-rest : k < 64 → (4 ≤ k → 8 ≤ k) → (0x3c ≤ k → 0x3d ≤ k) → (writable s k ≡ 0) × (storedZero s k ≡ 0)
   unfolding headerWritable firstOf
@@ -80,12 +77,6 @@ module _ (s : Shape) (k : ℕ) where
 
 -- ---- the four parts
 
--- fixed once or twice
-once : (a b : Bool) (f : ℕ → ℕ) (x : ℕ) → f (f x) ≡ f x → cond b (f (cond a (f x) x)) (cond a (f x) x) ≡ cond (a || b) (f x) x
-once true true f x e = e
-once true false f x e = refl
-once false b f x e = refl
-
 abbrev Part : Shape → (lo hi : ℕ) → (d e : List ℕ) → Type 0
 Part s lo hi d e = (k : ℕ) → byte e k ≡ partFixed s lo hi d k
 
@@ -99,7 +90,7 @@ module _ (s : Shape) (c : List ℕ) where
   fixed-more t lo hi d e g p k h =
       let b : Bool = leb lo k && ltb k hi in
       p k ∙ ap (λ (x : ℕ). cond b (fixedByte s k x) x) (g k h)
-      ∙ once (t k) b (fixedByte s k) (byte c k) (ap (fixedByte s k) (sym (byte-started s c k h)) ∙ fixed-started s c k)
+      ∙ cond-twice (t k) b (fixedByte s k) (byte c k) (ap (fixedByte s k) (sym (byte-started s c k h)) ∙ fixed-started s c k)
 
   fixed-all : (t : ℕ → Bool) (d : List ℕ) → Fixed t d → length d ≡ length c
       → ((k : ℕ) → k < length c → t k ≡ false → (writable s k ≡ 0) × (storedZero s k ≡ 0)) → d ≡ startedConfig s c
@@ -128,7 +119,7 @@ module _ (s : Shape) (c : List ℕ) where
       let e₃ = neither (t₂ k) (leb (s .msi .at) k && ltb k m) (e₄ .0) in
       let e₂ = neither (t₁ k) (leb 0x3c k && ltb k 0x3d) (e₃ .0) in
       by-test (ltb k 64)
-      (λ j. header-rest s k (ltb-true k 64 j) (outside 4 8 k (e₂ .0)) (outside 0x3c 0x3d k (e₂ .1)))
+      (λ j. header-rest s k (ltb-true k 64 j) (not-between 4 8 k (e₂ .0)) (not-between 0x3c 0x3d k (e₂ .1)))
       (λ j. high-rest s k (ltb-false k 64 j)
-      (λ q. let r : m ≤ k = outside (s .msi .at) m k (e₃ .1) q in omega arith)
-      (λ q. let r : n ≤ k = outside (s .msix .at) n k (e₄ .1) q in omega arith)))
+      (λ q. let r : m ≤ k = not-between (s .msi .at) m k (e₃ .1) q in omega arith)
+      (λ q. let r : n ≤ k = not-between (s .msix .at) n k (e₄ .1) q in omega arith)))

@@ -11,7 +11,7 @@ use borrow.Author.Tests.{eq-eqb, ne-eqb, eqb-true, eqb-false}
 use Rattle.words.specs.Lists.{within}
 use Rattle.words.specs.Bits.{bit, ofBool}
 use Rattle.words.specs.Bytes.{byte, bytesOf, number}
-use Rattle.words.proofs.BitLaws.{bit-and, bit-of-zero}
+use Rattle.words.proofs.BitLaws.{bit-and, bit-of-zero, ofBool-small}
 use Rattle.words.proofs.BoolLaws.{both, and-intro, same-test, by-test, cond-elim}
 use Rattle.words.proofs.ByteLaws.{bytesOf-lt, number-same}
 use Rattle.words.proofs.ListLaws.{within-true, true-within, all-at}
@@ -101,15 +101,10 @@ status-room s c z h l =
     let d : byte c 6 / 8 % 2 ≡ 0 = omega (arith, eqb-false (byte c 6 / 8 % 2) 1 f) in
     omega arith
 
-one-or-none : (line : Bool) → ofBool line ≤ 1
-unfolding ofBool
-one-or-none true = omega arith
-one-or-none false = omega arith
-
 -- each is a byte
 pub shown-lt : (s : Shape) (f : Function) → ((k : ℕ) → byte (f .config) k < 256) → byte (f .config) 6 ≤ 247 → (i : ℕ) → shown s (endpointOf f [] []) i < 256
 unfolding shown
 shown-lt s f h l i =
-    cond-elim (λ (x : ℕ). x < 256) (eqb i 6) (λ _. omega (arith, one-or-none (f .line)))
+    cond-elim (λ (x : ℕ). x < 256) (eqb i 6) (λ _. omega (arith, ofBool-small (f .line)))
     (λ _. cond-elim (λ (x : ℕ). x < 256) (inMsi s i && inPendingRegister s (i - s .msi .at))
     (λ _. bytesOf-lt 4 (f .waiting) (i - s .msi .at - formOf s .pending)) (λ _. h i))

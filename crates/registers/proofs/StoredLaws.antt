@@ -2,8 +2,7 @@
 use mathlib.Core.Path.{_≡_, refl, sym, ap, ap₂, _∙_}
 use mathlib.Core.Bool.{Bool, true, false, _&&_, true≢false}
 use mathlib.Core.List.{List}
-use Prim.Native.Nat.{ℕ, zero, suc, _+_, _-_, _*_, _%_, _^_, _≤_, _<_}
-use native.Mathlib.Nat.{pow-suc}
+use Prim.Native.Nat.{ℕ, _+_, _-_, _%_, _^_, _≤_, _<_}
 use native.Mathlib.Omega.{arith}
 use lib.Bits.{bitAnd, bitOr, and-comm, and-zero-l, and-mask}
 use lib.Dec.{ltb, eqb}
@@ -12,11 +11,13 @@ use lib.Pow.{pow-mono}
 use borrow.Author.Tests.{eq-eqb, ne-eqb, eqb-true, ltb-true, ltb-false}
 use Rattle.words.specs.Lists.{all, count, within, firstOf}
 use Rattle.words.specs.Bits.{clear}
-use Rattle.words.specs.Bytes.{byte, bytesOf, number, word32}
+use Rattle.words.specs.Bytes.{byte, number, word32}
 use Rattle.words.proofs.BitLaws.{clear-le}
 use Rattle.words.proofs.BoolLaws.{both, and-intro, same-test, by-test, cond-elim}
-use Rattle.words.proofs.ByteLaws.{bytesOf-lt, number-bytesOf, number-shift, number-lt}
-use Rattle.words.proofs.ListLaws.{all-below, all-holds, holds-all, count-member, member-count, within-true, true-within}
+use Rattle.words.proofs.ByteLaws.{number-shift, number-lt}
+use Rattle.words.proofs.ListLaws.{all-below, all-holds, holds-all, count-member, member-count, within-true, true-within, not-within}
+use Rattle.words.proofs.NumberBits.{not-number}
+use Rattle.words.proofs.ZeroBits.{clean, clean-word, or-none}
 use Rattle.model.specs.declared.Form.{Form}
 use Rattle.model.specs.declared.Shape.{Shape}
 use Rattle.model.specs.Shape.{formOf, msiPresent}
@@ -24,11 +25,10 @@ use Rattle.model.specs.Registers.{headerZero, msiZero, maskBytes, inMask, inPen
 use Rattle.model.specs.Sound.{zeroBits}
 use Rattle.model.proofs.PlaceLaws.{in-msi, size-large}
 use Rattle.model.proofs.FitLaws.{size-small}
-use Rattle.model.proofs.ZeroLaws.{not-within}
 use Rattle.layout.proofs.Checks.{msi-there, msi-absent}
 use Rattle.registers.specs.Bounds.{MsiBounds}
-use Rattle.registers.proofs.CleanLaws.{clean, clean-word, or-none, zero-bits}
-use Rattle.registers.proofs.MaskLaws.{masked, in-mask, in-pending, low-zero, high-zero, header-byte, msi-byte, other-byte, clear-ones}
+use Rattle.registers.proofs.CleanLaws.{zero-bits}
+use Rattle.registers.proofs.MaskLaws.{masked, in-mask, in-pending, low-zero, high-zero, header-byte, msi-byte, other-byte}
 
 -- ---- the masks are bytes
 
@@ -45,18 +45,6 @@ unfolding storedZero headerZero
 zero-byte s i =
     cond-elim (λ (n : ℕ). n < 256) (ltb i 64) (λ _. cond-elim (λ (n : ℕ). n < 256) (eqb i 6) (λ _. omega arith) (λ _. omega arith))
     (λ _. cond-elim (λ (n : ℕ). n < 256) (inMsi s i) (λ _. msi-zero-byte s (i - s .msi .at)) (λ _. omega arith))
-
--- ---- the number of complements is the complement
-
-number-not : (f : ℕ → ℕ) → ((k : ℕ) → f k < 256) → (i n : ℕ) → number f i n + number (λ k. clear (f k) 0xff) i n ≡ 256 ^ n - 1
-unfolding number
-number-not f h i zero = omega arith
-number-not f h i (suc n) =
-    let p : 256 ^ suc n ≡ 256 ^ n * 256 = pow-suc 256 n in
-    omega (arith, number-not f h (suc i) n, number-lt f (suc i) n h, clear-ones (f i) (h i), h i)
-
-not-number : (n x : ℕ) → x < 256 ^ n → number (λ k. clear (byte (bytesOf n x) k) 0xff) 0 n ≡ 256 ^ n - 1 - x
-not-number n x h = omega (arith, number-not (byte (bytesOf n x)) (bytesOf-lt n x) 0 n, number-bytesOf n x h)
 
 -- ---- byte i is clean
 

@@ -7,19 +7,17 @@ use native.Mathlib.Omega.{arith}
 use lib.ListN.{set}
 use Rattle.words.specs.Bits.{merge}
 use Rattle.words.specs.Bytes.{byte, bytesOf}
+use Rattle.words.proofs.ByteLaws.{bytesOf-next, bytesOf-end}
 use Rattle.model.specs.Registers.{written}
 
 module _ (mask : ℕ → ℕ) (at i n x : ℕ) (l w : List ℕ) (g : written mask l (at + i) (bytesOf (n - i) x) ≡ w) where
   -- byte i, which is b, is stored
   pub write-next : (b : ℕ) → i < n → b ≡ merge (mask (at + i)) (byte l (at + i)) (x % 256)
       → written mask (set l (at + i) b) (at + (i + 1)) (bytesOf (n - (i + 1)) (x / 256)) ≡ w
-  unfolding written bytesOf
-  write-next b h e =
-      let p : n - i ≡ suc (n - (i + 1)) = omega arith in
-      let q : at + (i + 1) ≡ suc (at + i) = omega arith in
-      rw (e, q) (rw p at g)
+  unfolding written
+  write-next b h e = let q : at + (i + 1) ≡ suc (at + i) = omega arith in rw (e, q) (rw (bytesOf-next n i x h) at g)
 
   -- nothing is left
   pub write-end : n ≤ i → l ≡ w
-  unfolding written bytesOf
-  write-end h = let p : n - i ≡ 0 = omega arith in rw p at g
+  unfolding written
+  write-end h = rw (bytesOf-end n i x h) at g

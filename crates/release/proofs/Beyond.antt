@@ -3,25 +3,19 @@ use mathlib.Core.Path.{_≡_, sym, ap, _∙_}
 use mathlib.Core.Bool.{Bool, true, false, not}
 use mathlib.Core.List.{List}
 use Prim.Native.Nat.{ℕ, _+_, _-_, _*_, _/_, _%_, _^_, _≤_, _<_}
-use native.Mathlib.Nat.{mod-lt}
 use native.Mathlib.Omega.{arith}
 use lib.Dec.{ltb, eqb}
 use lib.ListN.{length}
-use lib.Pow.{split, pow-pos}
 use borrow.Author.Tests.{eq-eqb, eqb-true, ltb-true, ltb-false, not-true}
 use Rattle.words.specs.Lists.{all, count}
 use Rattle.words.specs.Bits.{bit}
 use Rattle.words.specs.Bytes.{word64, Bytes}
 use Rattle.words.proofs.BoolLaws.{by-test, same-test}
-use Rattle.words.proofs.BitLaws.{bit-of-zero, bit-above, bits-ext}
-use Rattle.words.proofs.NumberBits.{bit-high}
+use Rattle.words.proofs.BitLaws.{bit-of-zero, bit-above, bit-shift, bits-ext}
+use Rattle.words.proofs.ByteLaws.{word64-lt}
 use Rattle.words.proofs.ListLaws.{all-holds, holds-all, member-count, count-member}
 use Rattle.release.specs.Owed.{waitsAt}
-use Rattle.release.proofs.PendingWords.{word-lt, word-bit}
-
-bit-shifted : (x s k : ℕ) → bit (x / 2 ^ s) k ≡ bit x (s + k)
-bit-shifted x s k =
-    sym (bit-high s (x / 2 ^ s) (x % 2 ^ s) k (mod-lt x (pow-pos s))) ∙ ap (λ (y : ℕ). bit y (s + k)) (split x s)
+use Rattle.release.proofs.PendingWords.{word-bit}
 
 -- a whole number of words: there are none
 pub beyond-none : (f : ℕ → Bool) (n len : ℕ) → len ≡ 8 * ((n + 63) / 64) → n % 64 ≡ 0 → true ≡ all f (count n (8 * len - n))
@@ -37,11 +31,11 @@ module _ (p : List ℕ) (n : ℕ) (b : Bytes p) (h : length p ≡ 8 * ((n + 63) 
   unfolding w
   bit-from i l =
       let e : 8 * (n / 64 * 8) + (n % 64 + i) ≡ n + i = omega arith in
-      bit-shifted w (n % 64) i ∙ word-bit p (n / 64 * 8) (n % 64 + i) b (omega arith) ∙ ap (waitsAt p) e
+      bit-shift w (n % 64) i ∙ word-bit p (n / 64 * 8) (n % 64 + i) b (omega arith) ∙ ap (waitsAt p) e
 
   clear-above : (i : ℕ) → 64 - n % 64 ≤ i → bit (w / 2 ^ (n % 64)) i ≡ false
   unfolding w
-  clear-above i l = bit-shifted w (n % 64) i ∙ bit-above 64 w (n % 64 + i) (word-lt p (n / 64 * 8) b) (omega arith)
+  clear-above i l = bit-shift w (n % 64) i ∙ bit-above 64 w (n % 64 + i) (word64-lt p (n / 64 * 8) b) (omega arith)
 
   size : 8 * length p - n ≡ 64 - n % 64
   size = omega (arith, g)

@@ -1,19 +1,19 @@
 -- Waiting bits cleared: what the model's sweep leaves of a function, and of a pending array. Assumes nothing.
 use mathlib.Core.Path.{_≡_, refl, sym, ap, _∙_}
-use mathlib.Core.Bool.{Bool, true, false, not, _&&_, and-true}
+use mathlib.Core.Bool.{Bool, false, not, _&&_, and-true}
 use mathlib.Core.List.{List, [], _∷_, _++_}
-use Prim.Native.Nat.{ℕ, _+_, _-_, _*_, _/_, _%_, _^_, _<_}
+use Prim.Native.Nat.{ℕ, _+_, _*_, _/_, _%_, _^_, _<_}
 use native.Mathlib.Omega.{arith}
-use lib.Dec.{ltb, eqb}
-use lib.Bits.{bitAnd}
+use lib.Dec.{ltb}
 use lib.ListN.{length, set}
-use lib.Seq.{getD-set-same, getD-set-other, set-out, ext-getD}
-use borrow.Author.Tests.{eqb-true, eqb-false, ltb-true, ltb-false}
+use lib.Seq.{ext-getD}
+use borrow.Author.Tests.{ltb-true, ltb-false}
 use Rattle.words.specs.Lists.{count, member}
 use Rattle.words.specs.Bits.{bit, clear, clearBit}
 use Rattle.words.specs.Bytes.{byte, Bytes}
 use Rattle.words.proofs.BoolLaws.{by-test}
-use Rattle.words.proofs.BitLaws.{bits-ext, bits-ext-below, bit-and, bit-clear, clear-le, bit-above}
+use Rattle.words.proofs.BitLaws.{bits-ext, bits-ext-below, bit-clear, clear-le, bit-above}
+use Rattle.words.proofs.ByteLaws.{bytes-set}
 use Rattle.words.proofs.ListLaws.{Holds, member-keep, count-member}
 use Rattle.model.specs.declared.Mode.the-variants.{Msi, Msix}
 use Rattle.model.specs.World.{Endpoint, endpointOf, withWaiting, zeroFunction}
@@ -56,15 +56,6 @@ msi-waiting k w u h =
 pub clear-msi : (k w : ℕ) (u : Endpoint) → w < 2 ^ k → clearAll Msi u (setBits k w) ≡ withWaiting u (clear w (u .function .waiting)) (u .pending)
 clear-msi k w u h = msi-only u (setBits k w) ∙ ap (λ (x : ℕ). withWaiting u x (u .pending)) (msi-waiting k w u h)
 
--- bits that are all set are cleared by a difference
-pub clear-part : (w x : ℕ) → ((v : ℕ) → bit w v ≡ true → bit x v ≡ true) → clear w x ≡ x - w
-unfolding clear
-clear-part w x h = ap (λ (n : ℕ). x - n) (bits-ext (bitAnd w x) w (λ v. bit-and w x v ∙ at v (bit w v) refl))
-  where
-    at : (v : ℕ) (b : Bool) → bit w v ≡ b → (b && bit x v) ≡ b
-    at v true e = h v e
-    at v false e = refl
-
 -- ---- a pending array
 
 pub waits-cleared : (p vs : List ℕ) (x : ℕ) → Holds (λ v. v < 8 * length p) vs → waitsAt (clearPending p vs) x ≡ (waitsAt p x && not (member x vs))
@@ -88,15 +79,6 @@ clear-append p [] ws = ap (λ (q : List ℕ). clearPending q ws) (sym (clear-not
 clear-append p (v ∷ vs) ws =
     clear-first p v (vs ++ ws) ∙ clear-append (set p (v / 8) (clearBit (byte p (v / 8)) (v % 8))) vs ws
     ∙ ap (λ (q : List ℕ). clearPending q ws) (sym (clear-first p v vs))
-
-bytes-set : (p : List ℕ) (i x : ℕ) → Bytes p → x < 256 → Bytes (set p i x)
-bytes-set p i x b h j =
-    by-test (eqb j i)
-    (λ t.
-    let e : j ≡ i = eqb-true j i t in
-    by-test (ltb i (length p)) (λ q. rw (e, getD-set-same p i x 0 (ltb-true i (length p) q)) h)
-    (λ q. rw (set-out p i x (ltb-false i (length p) q)) (b j)))
-    (λ t. rw (getD-set-other p i j x 0 (eqb-false j i t)) (b j))
 
 pub bytes-cleared : (p vs : List ℕ) → Bytes p → Bytes (clearPending p vs)
 unfolding clearBit

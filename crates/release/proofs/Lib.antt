@@ -1,6 +1,3 @@
-pub mod SetBits
-pub mod Sending
-pub mod Joins
 pub mod Masking
 pub mod Entries
 pub mod PendingWords

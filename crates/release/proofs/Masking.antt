@@ -2,8 +2,8 @@
 use mathlib.Core.Path.{_≡_, refl, sym, ap, ap₂, _∙_, subst}
 use mathlib.Core.Bool.{Bool, true, false, not, _&&_, _||_, and-true}
 use mathlib.Core.List.{List}
-use Prim.Native.Nat.{ℕ, zero, suc, _+_, _-_, _*_, _%_, _^_, _≤_, _<_}
-use native.Mathlib.Nat.{zero-mul, one-mul, add-zero}
+use Prim.Native.Nat.{ℕ, _+_, _-_, _*_, _%_, _^_, _≤_, _<_}
+use native.Mathlib.Nat.{add-zero}
 use native.Mathlib.Omega.{arith}
 use lib.Dec.{eqb}
 use lib.Bits.{bitAnd}
@@ -11,23 +11,14 @@ use lib.Pow.{shl-exact, shl-lt, pow-mono}
 use borrow.Author.Tests.{eqb-true}
 use Rattle.words.specs.Bits.{bit, clear}
 use Rattle.words.specs.Bytes.{byte, bitAt}
-use Rattle.words.proofs.BitLaws.{bit-zero, bit-of-zero, bit-power, bit-clear, clear-le, and-not}
+use Rattle.words.proofs.BitLaws.{bit-zero, bit-of-zero, bit-digit, bit-clear, clear-le, and-not}
 use Rattle.release.specs.Owed.{maskedAt, Unmasked}
-use Rattle.release.proofs.SetBits.{Turn, Remaining, remaining-all, remaining-next, bit-next}
+use Rattle.words.proofs.SetBits.{Turn, Remaining, remaining-all, remaining-next, bit-next}
 
 -- the mask bit of an entry is the lowest bit of its byte 12
 pub mask-byte : (table : List ℕ) (v : ℕ) → maskedAt table v ≡ eqb (byte table (16 * v + 12) % 2) 1
 unfolding maskedAt bitAt
 mask-byte table v = ap (λ (i : ℕ). bit (byte table i) 0) (add-zero (16 * v + 12)) ∙ bit-zero (byte table (16 * v + 12))
-
-bit-digit : (m v j : ℕ) → m < 2 → bit (m * 2 ^ v) j ≡ (eqb j v && eqb m 1)
-bit-digit zero v j h = ap (λ (x : ℕ). bit x j) (zero-mul (2 ^ v)) ∙ bit-of-zero j ∙ sym (and-false (eqb j v))
-  where
-    and-false : (b : Bool) → (b && false) ≡ false
-    and-false true = refl
-    and-false false = refl
-bit-digit (suc zero) v j h = ap (λ (x : ℕ). bit x j) (one-mul (2 ^ v)) ∙ bit-power v j ∙ sym (and-true (eqb j v))
-bit-digit (suc (suc m)) v j h = absurd (omega arith)
 
 module _ (table : List ℕ) (base w : ℕ) where
   -- r has the set bits of w, but for those of masked entries that are not left

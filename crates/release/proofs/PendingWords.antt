@@ -1,7 +1,7 @@
 -- The pending array by words of 64 vectors. Assumes nothing.
-use mathlib.Core.Path.{_≡_, refl, sym, ap, ap₂, _∙_}
-use mathlib.Core.Bool.{Bool, true, false, not, _&&_, false≢true}
-use mathlib.Core.List.{List, [], _∷_, _++_, map, append-nil}
+use mathlib.Core.Path.{_≡_, sym, ap, ap₂, _∙_}
+use mathlib.Core.Bool.{Bool, false, not, _&&_, and-comm, and-false, false≢true}
+use mathlib.Core.List.{List, [], _++_, map}
 use Prim.Native.Nat.{ℕ, _+_, _-_, _*_, _/_, _%_, _^_, _≤_, _<_}
 use native.Mathlib.Nat.{add-zero}
 use native.Mathlib.Omega.{arith}
@@ -14,21 +14,17 @@ use Rattle.words.specs.Bits.{bit}
 use Rattle.words.specs.Bytes.{byte, word64, Bytes}
 use Rattle.words.proofs.BoolLaws.{both, by-test}
 use Rattle.words.proofs.BitLaws.{bit-of-zero, bit-above}
-use Rattle.words.proofs.ByteLaws.{number-lt}
+use Rattle.words.proofs.ByteLaws.{word64-lt}
 use Rattle.words.proofs.NumberBits.{bit-number}
-use Rattle.words.proofs.ListLaws.{keep-same, keep-none, keep-append, count-append, member-count, join-append}
+use Rattle.words.proofs.ListLaws.{keep-same, keep-same-end, keep-append, count-append, member-count, join-append, join-map}
 use Rattle.words.proofs.ShiftLaws.{keep-shift}
 use Rattle.words.proofs.LowestLaws.{lowest-trailing}
 use Rattle.words.proofs.OnesLaws.{no-set-bits}
 use Rattle.model.specs.Sound.{isEmpty}
-use Rattle.release.proofs.SetBits.{turn}
+use Rattle.words.proofs.SetBits.{turn}
 use Rattle.release.specs.Owed.{setBits, entries, maskedAt, waitsAt, owes, owedEntries, entryMessage, entryPackets, wordPackets, Lent, Backed, Unmasked, owedWord}
 
 -- ---- a word's bits are the waiting bits of its vectors
-
-pub word-lt : (p : List ℕ) (k : ℕ) → Bytes p → word64 p k < 2 ^ 64
-unfolding word64
-word-lt p k b = number-lt (byte p) k 8 b
 
 pub word-bit : (p : List ℕ) (k j : ℕ) → Bytes p → j < 64 → bit (word64 p k) j ≡ waitsAt p (8 * k + j)
 unfolding word64 waitsAt
@@ -51,7 +47,7 @@ word-backed table p k b l j e =
     by-test (leb (entries table) (8 * k + j))
     (λ q. absurd (false≢true (sym (l .beyond (8 * k + j) (leb-true (entries table) (8 * k + j) q)) ∙ sym (word-bit p k j b (ltb-true j 64 t)) ∙ e)))
     (λ q. leb-false (entries table) (8 * k + j) q))
-    (λ t. absurd (false≢true (sym (bit-above 64 (word64 p k) j (word-lt p k b) (ltb-false j 64 t)) ∙ e)))
+    (λ t. absurd (false≢true (sym (bit-above 64 (word64 p k) j (word64-lt p k b) (ltb-false j 64 t)) ∙ e)))
 
 pub open-backed : (table p : List ℕ) (k r : ℕ) → Bytes p → Lent table p → Unmasked table (8 * k) (word64 p k) r → Backed table (8 * k) r
 open-backed table p k r b l u j e =
@@ -59,18 +55,12 @@ open-backed table p k r b l u j e =
 
 -- ---- what a word owes
 
-swap : (a b : Bool) → (a && not b) ≡ (not b && a)
-swap true true = refl
-swap true false = refl
-swap false true = refl
-swap false false = refl
-
 module _ (table p : List ℕ) (k r : ℕ) (b : Bytes p) (u : Unmasked table (8 * k) (word64 p k) r) where
   pub word-owes : (j : ℕ) → j < 64 → bit r j ≡ owes table p (8 * k + j)
   unfolding owes
   word-owes j h =
       u j ∙ ap (λ (x : Bool). x && not (maskedAt table (8 * k + j))) (word-bit p k j b h)
-      ∙ swap (waitsAt p (8 * k + j)) (maskedAt table (8 * k + j))
+      ∙ and-comm (waitsAt p (8 * k + j)) (not (maskedAt table (8 * k + j)))
 
   pub owed-bits : owedWord table p k ≡ map (λ j. 8 * k + j) (setBits 64 r)
   owed-bits =
@@ -79,11 +69,6 @@ module _ (table p : List ℕ) (k r : ℕ) (b : Bytes p) (u : Unmasked table (8 *
       ∙ ap (map (λ j. 8 * k + j))
       (keep-same (λ j. owes table p (8 * k + j)) (bit r) (count 0 64)
       (λ j m. sym (word-owes j (let q = member-count 0 64 j m in omega arith))))
-
-  join-map : (f : ℕ → List ℕ) (g : ℕ → ℕ) (l : List ℕ) → join f (map g l) ≡ join (λ j. f (g j)) l
-  unfolding join
-  join-map f g [] = refl
-  join-map f g (x ∷ l) = ap (λ (m : List ℕ). f (g x) ++ m) (join-map f g l)
 
   pub word-packets : (requester : ℕ) → entryPackets requester table (owedWord table p k) ≡ wordPackets requester table (8 * k) r
   word-packets requester =
@@ -122,25 +107,9 @@ pub owed-end : (table p : List ℕ) (k : ℕ) → length p ≤ k → owedFrom ta
 unfolding count keep
 owed-end table p k h = let e : 8 * (length p - k) ≡ 0 = omega arith in rw e
 
--- nothing passes a test from a on
-keep-beyond : (f : ℕ → Bool) (a b : ℕ) → ((v : ℕ) → a ≤ v → f v ≡ false) → keep f (count 0 (a + b)) ≡ keep f (count 0 a)
-keep-beyond f a b h =
-    ap (keep f) (count-append 0 a b) ∙ keep-append f (count 0 a) (count (0 + a) b)
-    ∙ ap (λ (l : List ℕ). keep f (count 0 a) ++ l) (keep-none f (count (0 + a) b) (λ v m. let q = member-count (0 + a) b v m in h v (omega arith)))
-    ∙ append-nil (keep f (count 0 a))
-
--- two such places give the same
-pub keep-same-end : (f : ℕ → Bool) (a b : ℕ) → ((v : ℕ) → a ≤ v → f v ≡ false) → ((v : ℕ) → b ≤ v → f v ≡ false) → keep f (count 0 a) ≡ keep f (count 0 b)
-keep-same-end f a b h g =
-    sym (keep-beyond f a b h) ∙ ap (λ (n : ℕ). keep f (count 0 n)) (let e : a + b ≡ b + a = omega arith in e) ∙ keep-beyond f b a g
-
-no-wait : (a b : Bool) → b ≡ false → (a && b) ≡ false
-no-wait true b e = e
-no-wait false b e = refl
-
 pub owed-all : (table p : List ℕ) → Lent table p → owedFrom table p 0 ≡ owedEntries table p (entries table)
 unfolding owedEntries owes
 owed-all table p l =
     keep-same-end (owes table p) (8 * (length p - 0)) (entries table)
-    (λ v h. no-wait (not (maskedAt table v)) (waitsAt p v) (waits-past p v (omega arith)))
-    (λ v h. no-wait (not (maskedAt table v)) (waitsAt p v) (l .beyond v h))
+    (λ v h. rw (waits-past p v (omega arith)) (and-false (not (maskedAt table v))))
+    (λ v h. rw (l .beyond v h) (and-false (not (maskedAt table v))))

@@ -8,10 +8,11 @@ use lib.ListN.{length}
 use Rattle.words.specs.Bytes.{word64, bytesOf, Bytes}
 use Rattle.words.specs.Writers.{over, putAt, Wrote}
 use Rattle.words.proofs.BitLaws.{and-not}
+use Rattle.words.proofs.ByteLaws.{word64-lt}
 use Rattle.release.specs.Owed.{entries, owedEntries, entryMessage, entryPackets, clearPending, Lent, Unmasked, Released, owedWord, wordPackets}
-use Rattle.release.proofs.Joins.{join-none}
-use Rattle.release.proofs.PendingWords.{word-lt, word-packets, owedFrom, owed-all, owed-split, owed-end, packets-split}
-use Rattle.release.proofs.Sending.{Sending, sending-all, sending-fits, sending-next, sending-done}
+use Rattle.words.proofs.ListLaws.{join-none}
+use Rattle.release.proofs.PendingWords.{word-packets, owedFrom, owed-all, owed-split, owed-end, packets-split}
+use Rattle.words.proofs.Sending.{Sending, sending-all, sending-fits, sending-next, sending-done}
 use Rattle.release.proofs.WordClear.{word-cleared, owed-after, lent-after}
 use Rattle.release.proofs.Clearing.{clear-nothing, clear-append, length-cleared}
 
@@ -31,7 +32,7 @@ released-word requester table p o k r w n p′ o′ b h l e u s q = record {
   sent = rw (word-packets table p k r b u requester) s;
   cleared =
       q
-      ∙ ap (λ (x : ℕ). putAt k (bytesOf 8 x) p) (ap (bitAnd ((2 ^ 64 - 1) - r)) e ∙ and-not 64 r (word64 p k) l (word-lt p k b))
+      ∙ ap (λ (x : ℕ). putAt k (bytesOf 8 x) p) (ap (bitAnd ((2 ^ 64 - 1) - r)) e ∙ and-not 64 r (word64 p k) l (word64-lt p k b))
       ∙ word-cleared table p k h r b u;
 }
 

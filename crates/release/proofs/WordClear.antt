@@ -1,71 +1,24 @@
 -- A word of the pending array written back without the bits that it owes. Assumes nothing.
 use mathlib.Core.Path.{_≡_, sym, ap, ap₂, _∙_}
 use mathlib.Core.Bool.{Bool, true, false, not, _&&_, and-true, and-false, false≢true}
-use mathlib.Core.List.{List, _++_}
+use mathlib.Core.List.{List}
 use Prim.Native.Nat.{ℕ, _+_, _-_, _*_, _/_, _%_, _^_, _≤_, _<_}
 use native.Mathlib.Nat.{zero-add}
 use native.Mathlib.Omega.{arith}
-use lib.Dec.{ltb}
-use lib.ListN.{length, take, drop, length-append, length-drop, List·getD-append}
-use lib.Seq.{length-take-le, getD-append-add, getD-take, getD-drop}
-use borrow.Author.Tests.{ltb-true, ltb-false}
+use lib.ListN.{length}
 use Rattle.words.specs.Lists.{count, keep, member, within}
 use Rattle.words.specs.Bits.{bit, clear}
 use Rattle.words.specs.Bytes.{byte, bitAt, word64, bytesOf, Bytes}
 use Rattle.words.specs.Writers.{putAt}
-use Rattle.words.proofs.BoolLaws.{both, by-test, same-test}
+use Rattle.words.proofs.BoolLaws.{both, by-test}
 use Rattle.words.proofs.BitLaws.{bit-clear, clear-le}
-use Rattle.words.proofs.ByteLaws.{length-bytesOf, bytesOf-lt}
+use Rattle.words.proofs.ByteLaws.{length-bytesOf, bytesOf-lt, word64-lt}
+use Rattle.words.proofs.PutBytes.{length-put, byte-here, byte-other, bytes-put}
 use Rattle.words.proofs.NumberBits.{bit-bytesOf}
-use Rattle.words.proofs.ListLaws.{member-keep, member-count, count-member, keep-same, within-true, true-within}
+use Rattle.words.proofs.ListLaws.{member-keep, member-count, member-within, keep-same, within-true, true-within, not-within}
 use Rattle.release.specs.Owed.{maskedAt, waitsAt, owes, clearPending, Lent, Unmasked, owedWord}
-use Rattle.release.proofs.PendingWords.{word-lt, word-bit, word-owes, owedFrom}
+use Rattle.release.proofs.PendingWords.{word-bit, word-owes, owedFrom}
 use Rattle.release.proofs.Clearing.{waits-cleared, length-cleared, bytes-cleared, same-bits}
-
--- ---- bytes q put from place k on
-
-module _ (k : ℕ) (q p : List ℕ) (h : k + length q ≤ length p) where
-  length-put : length (putAt k q p) ≡ length p
-  length-put =
-      rw (length-append, length-append, length-drop, length-drop, length-take-le k p (omega arith)) (omega arith)
-
-  byte-before : (i : ℕ) → i < k → byte (putAt k q p) i ≡ byte p i
-  byte-before i l =
-      List·getD-append (take k p) (q ++ drop (length q) (drop k p)) 0 i (rw (length-take-le k p (omega arith)) l) ∙ getD-take k p i 0 l
-
-  byte-from : (i : ℕ) → byte (putAt k q p) (k + i) ≡ byte (q ++ drop (length q) (drop k p)) i
-  byte-from i =
-      ap (λ (n : ℕ). byte (putAt k q p) (n + i)) (sym (length-take-le k p (omega arith)))
-      ∙ getD-append-add (take k p) (q ++ drop (length q) (drop k p)) i 0
-
-  byte-here : (i : ℕ) → i < length q → byte (putAt k q p) (k + i) ≡ byte q i
-  byte-here i l = byte-from i ∙ List·getD-append q (drop (length q) (drop k p)) 0 i l
-
-  byte-behind : (i : ℕ) → byte (putAt k q p) (k + (length q + i)) ≡ byte p (k + (length q + i))
-  byte-behind i =
-      byte-from (length q + i) ∙ getD-append-add q (drop (length q) (drop k p)) i 0 ∙ getD-drop (length q) (drop k p) i 0
-      ∙ getD-drop k p (length q + i) 0
-
-  byte-other : (i : ℕ) → within k (length q) i ≡ false → byte (putAt k q p) i ≡ byte p i
-  byte-other i t =
-      by-test (ltb i k) (λ s. byte-before i (ltb-true i k s))
-      (λ s.
-      let g : k ≤ i = ltb-false i k s in
-      by-test (ltb i (k + length q)) (λ z. absurd (false≢true (sym t ∙ true-within k (length q) i g (ltb-true i (k + length q) z))))
-      (λ z.
-      let f : k + length q ≤ i = ltb-false i (k + length q) z in
-      let e : k + (length q + (i - k - length q)) ≡ i = omega arith in
-      rw e at (byte-behind (i - k - length q))))
-
-  bytes-put : Bytes q → Bytes p → Bytes (putAt k q p)
-  bytes-put a b i =
-      by-test (within k (length q) i)
-      (λ t.
-      let m = within-true k (length q) i t in
-      let e : k + (i - k) ≡ i = omega (arith, m) in
-      let d : byte (putAt k q p) i ≡ byte q (i - k) = rw e at (byte-here (i - k) (omega (arith, m))) in
-      rw d (a (i - k)))
-      (λ t. rw (byte-other i t) (b i))
 
 -- ---- a number x of 64 bits put at byte k
 
@@ -93,11 +46,6 @@ module _ (k x : ℕ) (p : List ℕ) (h : k + 8 ≤ length p) (u : x < 2 ^ 64) wh
           (λ s. let m = within-true k 8 (v / 8) s in absurd (false≢true (sym t ∙ true-within (8 * k) 64 v (omega (arith, m)) (omega (arith, m))))) (λ s. s)
 
 -- ---- the word at byte k without the bits that it owes
-
-member-within : (a n v : ℕ) → member v (count a n) ≡ within a n v
-member-within a n v =
-    same-test (member v (count a n)) (within a n v) (λ e. let m = member-count a n v e in true-within a n v (m .0) (m .1))
-    (λ e. let m = within-true a n v e in count-member a n v (m .0) (m .1))
 
 module _ (table p : List ℕ) (k : ℕ) (h : k + 8 ≤ length p) where
   pub member-word : (v : ℕ) → member v (owedWord table p k) ≡ (owes table p v && within (8 * k) 64 v)
@@ -128,7 +76,7 @@ module _ (table p : List ℕ) (k : ℕ) (h : k + 8 ≤ length p) where
       x = clear r (word64 p k)
 
       l : x < 2 ^ 64
-      l = omega (arith, word-lt p k b, clear-le r (word64 p k))
+      l = omega (arith, word64-lt p k b, clear-le r (word64 p k))
 
       at : (j : ℕ) → j < 64 → waitsAt (putAt k (bytesOf 8 x) p) (8 * k + j) ≡ (waitsAt p (8 * k + j) && not (owes table p (8 * k + j) && true))
       at j q =
@@ -148,11 +96,7 @@ module _ (table p : List ℕ) (k : ℕ) (h : k + 8 ≤ length p) where
   owed-after =
       ap (λ (n : ℕ). keep (owes table (clearPending p (owedWord table p k))) (count (8 * (k + 8)) (8 * (n - (k + 8))))) (length-cleared p (owedWord table p k))
       ∙ keep-same (owes table (clearPending p (owedWord table p k))) (owes table p) (count (8 * (k + 8)) (8 * (length p - (k + 8))))
-      (λ v m. ap (λ (c : Bool). not (maskedAt table v) && c) (waits-outside v (behind v (member-count (8 * (k + 8)) (8 * (length p - (k + 8))) v m .0))))
-    where
-      behind : (v : ℕ) → 8 * (k + 8) ≤ v → within (8 * k) 64 v ≡ false
-      behind v g =
-          by-test (within (8 * k) 64 v) (λ t. let m = within-true (8 * k) 64 v t in absurd (omega (arith, m))) (λ t. t)
+      (λ v m. ap (λ (c : Bool). not (maskedAt table v) && c) (waits-outside v (not-within (8 * k) 64 v (omega (arith, member-count (8 * (k + 8)) (8 * (length p - (k + 8))) v m .0)))))
 
   pub lent-after : Lent table p → Lent table (clearPending p (owedWord table p k))
   lent-after l = record {

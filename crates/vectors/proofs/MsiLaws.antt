@@ -1,17 +1,15 @@
 -- The open vectors of MSI as the bits of a word. Assumes nothing.
 use mathlib.Core.Path.{_≡_, sym, ap, _∙_}
 use mathlib.Core.Bool.{Bool, true, false, not, _&&_, and-false, and-true}
-use Prim.Native.Nat.{ℕ, zero, _+_, _-_, _^_, _≤_, _<_}
-use native.Mathlib.Nat.{sub-zero}
+use Prim.Native.Nat.{ℕ, _+_, _-_, _^_, _≤_, _<_}
 use native.Mathlib.Omega.{arith}
 use lib.Bits.{bitAnd}
 use lib.Dec.{ltb}
-use lib.Pow.{pow-pos}
-use borrow.Author.Tests.{le-ltb, ltb-true, ltb-false}
+use borrow.Author.Tests.{le-ltb, ltb-true}
 use Rattle.words.specs.Bits.{bit}
 use Rattle.words.specs.Bytes.{byte, bitAt, word32, Bytes}
 use Rattle.words.proofs.BoolLaws.{by-test}
-use Rattle.words.proofs.BitLaws.{bit-of-zero, bit-and, bit-not, bit-above}
+use Rattle.words.proofs.BitLaws.{bit-of-zero, bit-and, bit-not, bit-ones}
 use Rattle.words.proofs.NumberBits.{bit-number}
 use Rattle.model.specs.declared.Mode.the-variants.{Msi}
 use Rattle.model.specs.declared.Shape.{Shape}
@@ -19,13 +17,6 @@ use Rattle.model.specs.Shape.{formOf}
 use Rattle.model.specs.World.{Registers}
 use Rattle.model.specs.Vectors.{granted, masked, enabled, modeOf, sameMode, inForce, commandBit, isOpen}
 use Rattle.vectors.proofs.GrantedLaws.{granted-small}
-
--- the n lowest bits
-pub bit-ones : (n k : ℕ) → bit (2 ^ n - 1) k ≡ ltb k n
-bit-ones n k =
-    by-test (ltb k n)
-    (λ t. ap (λ (x : ℕ). bit x k) (sym (sub-zero (2 ^ n - 1))) ∙ bit-not n 0 k (pow-pos n) (ltb-true k n t) ∙ ap not (bit-of-zero k) ∙ sym t)
-    (λ t. bit-above n (2 ^ n - 1) k (let p : zero < 2 ^ n = pow-pos n in omega arith) (ltb-false k n t) ∙ sym t)
 
 -- MSI is not in force, or bus mastering is off
 module _ (s : Shape) (r : Registers) where

@@ -1,16 +1,15 @@
 -- Open vectors of any mechanism, and those that are owed. Assumes nothing.
 use mathlib.Core.Path.{_≡_, sym, ap, _∙_}
 use mathlib.Core.Bool.{Bool, false, _&&_, and-false}
-use mathlib.Core.List.{[], append-nil}
-use Prim.Native.Nat.{ℕ, _+_, _-_, _≤_}
-use native.Mathlib.Nat.{zero-add}
+use mathlib.Core.List.{[]}
+use Prim.Native.Nat.{ℕ, _≤_}
 use native.Mathlib.Omega.{arith}
 use lib.Bits.{bitAnd}
 use Rattle.words.specs.Lists.{keep, count}
 use Rattle.words.specs.Bits.{bit}
 use Rattle.words.proofs.BoolLaws.{by-test}
 use Rattle.words.proofs.BitLaws.{bit-and}
-use Rattle.words.proofs.ListLaws.{keep-same, keep-none, keep-append, count-append, member-count}
+use Rattle.words.proofs.ListLaws.{keep-same, keep-none, keep-below}
 use Rattle.model.specs.declared.Mode.{Mode}
 use Rattle.model.specs.declared.Mode.the-variants.{Pin, Msi, Msix}
 use Rattle.model.specs.declared.Shape.{Shape}
@@ -25,13 +24,6 @@ use Rattle.vectors.proofs.CountLaws.{msi-count}
 pub pin-shut : (s : Shape) (r : Registers) (v : ℕ) → isOpen Pin s r v ≡ false
 unfolding isOpen enabled
 pin-shut s r v = rw and-false
-
--- a test that fails from n on keeps nothing there
-keep-below : (f : ℕ → Bool) (n k : ℕ) → n ≤ k → ((v : ℕ) → n ≤ v → f v ≡ false) → keep f (count 0 n) ≡ keep f (count 0 k)
-keep-below f n k h none =
-    let e : k ≡ n + (k - n) = omega arith in
-    let z : keep f (count (0 + n) (k - n)) ≡ [] = keep-none f (count (0 + n) (k - n)) (λ v m. none v (rw zero-add at (member-count (0 + n) (k - n) v m .0))) in
-    sym (ap (λ (j : ℕ). keep f (count 0 j)) e ∙ ap (keep f) (count-append 0 n (k - n)) ∙ keep-append f (count 0 n) (count (0 + n) (k - n)) ∙ rw (z, append-nil))
 
 -- the owed vectors are found among the k lowest numbers, if the mechanism has no more vectors
 pub owed-among : (m : Mode) (s : Shape) (u : Endpoint) (k : ℕ) → vectorCount m s ≤ k

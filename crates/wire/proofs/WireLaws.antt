@@ -1,6 +1,6 @@
 -- The level that the wire should have, by each way to find it, and the packet owed. Assumes nothing.
 use mathlib.Core.Path.{_≡_, refl, sym, ap, _∙_}
-use mathlib.Core.Bool.{Bool, true, false, not, cond, _&&_, Bool·beq, and-false}
+use mathlib.Core.Bool.{Bool, true, false, not, cond, _&&_, Bool·beq, and-false, and-true}
 use mathlib.Core.List.{List, []}
 use Prim.Native.Nat.{ℕ, _≤_}
 use Rattle.words.specs.Writers.{Wrote}
@@ -38,11 +38,7 @@ due-disabled w e = rw e (sym (and-false (w .line && isPin (w .mode) && not (eqb 
 
 pub due-mode : (w : Wiring) (m : Mode) → not (w .line) ≡ false → (w .pin ≡ 0 → ⊥) → w .disabled ≡ false → w .mode ≡ m → isPin m ≡ dueOf w
 unfolding dueOf
-due-mode w m l p d e = rw (not-false (w .line) l, ne-eqb (w .pin) 0 p, d, e) (same (isPin m))
-  where
-    same : (b : Bool) → b ≡ (b && true && true)
-    same true = refl
-    same false = refl
+due-mode w m l p d e = rw (not-false (w .line) l, ne-eqb (w .pin) 0 p, d, e) (sym (and-true (isPin m && true) ∙ and-true (isPin m)))
 
 -- ---- the packet owed
 

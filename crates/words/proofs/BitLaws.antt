@@ -1,15 +1,17 @@
 -- The bits of and, or, clear, merge and of one bit set or cleared. No law has a width, but where a complement is taken. Assumes nothing.
 use mathlib.Core.Path.{_≡_, refl, sym, ap, ap₂, _∙_}
-use mathlib.Core.Bool.{Bool, true, false, not, cond, _&&_, _||_, true≢false, false≢true}
-use Prim.Native.Nat.{ℕ, zero, suc, _+_, _-_, _*_, _/_, _%_, _^_, _≤_, _<_, min, max}
-use native.Mathlib.Nat.{pow-suc, pow-zero, div-one, mod-lt, div-eq-of-lt}
+use mathlib.Core.Bool.{Bool, true, false, not, cond, _&&_, _||_, true≢false, false≢true, and-true, and-false, and-comm}
+use Prim.Native.Nat.{ℕ, zero, suc, _+_, _-_, _*_, _/_, _%_, _^_, _≤_, _<_, min}
+use native.Mathlib.Nat.{pow-suc, div-one, mod-lt, mod-eq-of-lt, div-eq-of-lt, sub-zero, zero-mul, one-mul}
 use native.Mathlib.Numerals.{one-add, add-one}
 use native.Mathlib.Omega.{arith}
-use lib.Bits.{bitAnd, bitOr, and-step, or-step, and-shr, and-mod, or-shr, or-mod, and-lt, or-lt, and-le-r}
-use lib.Dec.{eqb}
+use lib.Bits.{bitAnd, bitOr, and-step, and-shr, and-mod, and-mask, or-shr, or-mod, and-lt, or-lt, and-le-r}
+use lib.Dec.{eqb, ltb, eqb·suc-suc}
 use lib.Pow.{shr-shr, pow-pos, pow-lt, pow-mono, mod-pow-add}
-use borrow.Author.Tests.{eq-eqb, ne-eqb, eqb-true, eqb-false}
-use Rattle.words.specs.Bits.{bit, field, clear, clearBit, setBit, merge}
+use mir.Val.{boolByte}
+use borrow.Author.Tests.{ne-eqb, ltb-true, ltb-false}
+use Rattle.words.specs.Bits.{bit, field, ofBool, clear, clearBit, setBit, merge}
+use Rattle.words.proofs.BoolLaws.{by-test}
 
 -- ---- a bit by recursion
 
@@ -94,13 +96,6 @@ clear-le m x = omega arith
 
 -- ---- one bit
 
-eqb-suc : (i k : ℕ) → eqb (suc k) (suc i) ≡ eqb k i
-eqb-suc i k = go (eqb k i) refl
-  where
-    go : (b : Bool) → eqb k i ≡ b → eqb (suc k) (suc i) ≡ b
-    go true e = eq-eqb (suc k) (suc i) (ap suc (eqb-true k i e))
-    go false e = ne-eqb (suc k) (suc i) (λ h. eqb-false k i e (omega arith))
-
 pub bit-power : (i k : ℕ) → bit (2 ^ i) k ≡ eqb k i
 bit-power zero zero = bit-zero 1
 bit-power zero (suc k) = bit-suc 1 k ∙ bit-of-zero k ∙ sym (ne-eqb (suc k) 0 (omega arith))
@@ -110,7 +105,13 @@ bit-power (suc i) zero =
 bit-power (suc i) (suc k) =
     let p : 2 ^ suc i ≡ 2 ^ i * 2 = pow-suc 2 i in
     let h : 2 ^ suc i / 2 ≡ 2 ^ i = omega arith in
-    bit-suc (2 ^ suc i) k ∙ ap (λ (n : ℕ). bit n k) h ∙ bit-power i k ∙ sym (eqb-suc i k)
+    bit-suc (2 ^ suc i) k ∙ ap (λ (n : ℕ). bit n k) h ∙ bit-power i k ∙ sym (eqb·suc-suc k i)
+
+-- a digit at bit v
+pub bit-digit : (m v j : ℕ) → m < 2 → bit (m * 2 ^ v) j ≡ (eqb j v && eqb m 1)
+bit-digit zero v j h = ap (λ (x : ℕ). bit x j) (zero-mul (2 ^ v)) ∙ bit-of-zero j ∙ sym (and-false (eqb j v))
+bit-digit (suc zero) v j h = ap (λ (x : ℕ). bit x j) (one-mul (2 ^ v)) ∙ bit-power v j ∙ sym (and-true (eqb j v))
+bit-digit (suc (suc m)) v j h = absurd (omega arith)
 
 pub bit-set : (x i k : ℕ) → bit (setBit x i) k ≡ (eqb k i || bit x k)
 unfolding setBit
@@ -136,11 +137,6 @@ bit-merge mask old new k =
     bit-or (bitAnd mask new) (clear mask old) k
     ∙ ap₂ _||_ (bit-and mask new k) (bit-clear mask old k)
     ∙ choose (bit mask k) (bit old k) (bit new k)
-
-pub merge-lt : (w mask old new : ℕ) → old < 2 ^ w → new < 2 ^ w → merge mask old new < 2 ^ w
-unfolding merge
-merge-lt w mask old new h j =
-    or-lt w (bitAnd mask new) (clear mask old) (omega (arith, and-le-r mask new)) (omega (arith, clear-le mask old))
 
 -- ---- numbers with the same bits are equal
 
@@ -201,18 +197,24 @@ bit-not (suc w) x (suc k) h l =
     let e : ((2 ^ suc w - 1) - x) / 2 ≡ (2 ^ w - 1) - x / 2 = omega arith in
     bit-suc ((2 ^ suc w - 1) - x) k ∙ ap (λ (n : ℕ). bit n k) e ∙ bit-not w (x / 2) k (omega arith) (omega arith) ∙ ap not (sym (bit-suc x k))
 
+-- the n lowest bits
+pub bit-ones : (n k : ℕ) → bit (2 ^ n - 1) k ≡ ltb k n
+bit-ones n k =
+    by-test (ltb k n)
+    (λ t. ap (λ (x : ℕ). bit x k) (sym (sub-zero (2 ^ n - 1))) ∙ bit-not n 0 k (pow-pos n) (ltb-true k n t) ∙ ap not (bit-of-zero k) ∙ sym t)
+    (λ t. bit-above n (2 ^ n - 1) k (let p : zero < 2 ^ n = pow-pos n in omega arith) (ltb-false k n t) ∙ sym t)
+
+-- of w bits those that m does not have
+pub clear-ones : (w m : ℕ) → m < 2 ^ w → (2 ^ w - 1) - m ≡ clear m (2 ^ w - 1)
+unfolding clear
+clear-ones w m h = ap (λ (x : ℕ). (2 ^ w - 1) - x) (sym (and-mask m w ∙ mod-eq-of-lt h))
+
 -- and with a complement clears
 pub and-not : (w mask x : ℕ) → mask < 2 ^ w → x < 2 ^ w → bitAnd ((2 ^ w - 1) - mask) x ≡ clear mask x
 and-not w mask x h j =
     bits-ext-below w (bitAnd ((2 ^ w - 1) - mask) x) (clear mask x)
     (and-lt w ((2 ^ w - 1) - mask) x (let p : zero < 2 ^ w = pow-pos w in omega arith) j) (omega (arith, clear-le mask x))
-    λ k l. bit-and ((2 ^ w - 1) - mask) x k ∙ ap (λ (b : Bool). b && bit x k) (bit-not w mask k h l) ∙ swap (bit mask k) (bit x k) ∙ sym (bit-clear mask x k)
-  where
-    swap : (a b : Bool) → (not a && b) ≡ (b && not a)
-    swap true true = refl
-    swap true false = refl
-    swap false true = refl
-    swap false false = refl
+    λ k l. bit-and ((2 ^ w - 1) - mask) x k ∙ ap (λ (b : Bool). b && bit x k) (bit-not w mask k h l) ∙ and-comm (not (bit mask k)) (bit x k) ∙ sym (bit-clear mask x k)
 
 -- one bit of a byte
 pub clear-byte : (x k : ℕ) → k < 8 → x < 256 → bitAnd (255 - 2 ^ k) x ≡ clearBit x k
@@ -247,11 +249,7 @@ clear-merge m o n =
 
 pub clear-none : (x : ℕ) → clear 0 x ≡ x
 clear-none x =
-    bits-ext (clear 0 x) x λ k. bit-clear 0 x k ∙ ap (λ (b : Bool). bit x k && not b) (bit-of-zero k) ∙ stay (bit x k)
-  where
-    stay : (b : Bool) → (b && true) ≡ b
-    stay true = refl
-    stay false = refl
+    bits-ext (clear 0 x) x λ k. bit-clear 0 x k ∙ ap (λ (b : Bool). bit x k && not b) (bit-of-zero k) ∙ and-true (bit x k)
 
 pub clear-comm : (m n x : ℕ) → clear m (clear n x) ≡ clear n (clear m x)
 clear-comm m n x =
@@ -266,9 +264,33 @@ clear-comm m n x =
     swap true false false = refl
     swap false b c = refl
 
+-- ---- bits that are all set in another number
+
+pub and-part : (w x : ℕ) → ((v : ℕ) → bit w v ≡ true → bit x v ≡ true) → bitAnd w x ≡ w
+and-part w x h = bits-ext (bitAnd w x) w (λ v. bit-and w x v ∙ at v (bit w v) refl)
+  where
+    at : (v : ℕ) (b : Bool) → bit w v ≡ b → (b && bit x v) ≡ b
+    at v true e = h v e
+    at v false e = refl
+
+-- ---- a bool as a number
+
+pub ofBool-small : (b : Bool) → ofBool b ≤ 1
+unfolding ofBool
+ofBool-small true = omega arith
+ofBool-small false = omega arith
+
+pub flag-number : (b : Bool) → boolByte b ≡ ofBool b
+unfolding ofBool
+flag-number true = refl
+flag-number false = refl
+
+pub flag-small : (b : Bool) → boolByte b ≤ 1
+flag-small b = rw (flag-number b) (ofBool-small b)
+
 -- ---- fields
 
-bit-shift : (x i k : ℕ) → bit (x / 2 ^ i) k ≡ bit x (i + k)
+pub bit-shift : (x i k : ℕ) → bit (x / 2 ^ i) k ≡ bit x (i + k)
 unfolding bit
 bit-shift x i k = ap (λ (n : ℕ). eqb (n % 2) 1) (shr-shr x i k)
 

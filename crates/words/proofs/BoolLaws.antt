@@ -1,10 +1,11 @@
 -- Tests taken apart. Assumes nothing.
-use mathlib.Core.Path.{_≡_, refl, sym, ap, ap₂, _∙_, subst}
+use mathlib.Core.Path.{_≡_, refl, sym, ap, _∙_, subst}
 use mathlib.Core.Bool.{Bool, true, false, not, cond, _&&_, _||_, true≢false, false≢true, Bool·beq}
 use mathlib.Core.List.{List, [], _∷_, _++_}
-use Prim.Native.Nat.{ℕ, zero, suc, _≤_, _<_}
+use Prim.Native.Nat.{ℕ, _≤_}
+use native.Mathlib.Omega.{arith}
 use lib.Dec.{T, ltb, leb, eqb}
-use borrow.Author.Tests.{eq-eqb, not-true}
+use borrow.Author.Tests.{eq-eqb, eqb-true, eqb-false, lt-ltb, le-ltb, le-leb, ltb-false, not-true}
 use Rattle.words.specs.Lists.{firstOf, numbered}
 
 pub both : (a b : Bool) → (a && b) ≡ true → (a ≡ true) × (b ≡ true)
@@ -46,6 +47,40 @@ by-test false f g = g refl
 pub cond-elim : {A : Type 0} (P : A → Type 0) (b : Bool) {x y : A} → (b ≡ true → P x) → (b ≡ false → P y) → P (cond b x y)
 cond-elim P true f g = f refl
 cond-elim P false f g = g refl
+
+-- three tests with the same number
+pub three-rows : (a b c : Bool) (x y : ℕ) → cond a x (cond b x (cond c x y)) ≡ cond ((a || b) || c) x y
+three-rows true b c x y = refl
+three-rows false true c x y = refl
+three-rows false false true x y = refl
+three-rows false false false x y = refl
+
+-- what is done once or twice, if twice is no more than once
+pub cond-twice : (a b : Bool) (f : ℕ → ℕ) (x : ℕ) → f (f x) ≡ f x → cond b (f (cond a (f x) x)) (cond a (f x) x) ≡ cond (a || b) (f x) x
+cond-twice true true f x e = e
+cond-twice true false f x e = refl
+cond-twice false b f x e = refl
+
+-- ---- tests of numbers
+
+pub one-of : {P : Type 0} (n a : ℕ) (rest : Bool) → (eqb n a || rest) ≡ true → (n ≡ a → P) → (rest ≡ true → P) → P
+one-of n a rest e f g = by-test (eqb n a) (λ t. f (eqb-true n a t)) (λ t. g (rw t at e))
+
+-- a place from lo on that is not below hi
+pub not-between : (lo hi k : ℕ) → (leb lo k && ltb k hi) ≡ false → lo ≤ k → hi ≤ k
+not-between lo hi k e h = ltb-false k hi (second-false (leb lo k) (ltb k hi) (le-leb lo k h) e)
+
+pub below-one : (x : ℕ) → ltb x 1 ≡ eqb x 0
+below-one x =
+    by-test (eqb x 0) (λ e. lt-ltb x 1 (omega (arith, eqb-true x 0 e)) ∙ sym e)
+    (λ e. le-ltb x 1 (let n : x ≡ 0 → ⊥ = eqb-false x 0 e in omega (arith, n)) ∙ sym e)
+
+-- a test of two numbers that says: both are 0
+pub both-zero : (x y z : ℕ) → (z ≡ 0 → (x ≡ 0) × (y ≡ 0)) → (x ≡ 0 → y ≡ 0 → z ≡ 0) → eqb z 0 ≡ (eqb x 0 && eqb y 0)
+both-zero x y z f g =
+    same-test (eqb z 0) (eqb x 0 && eqb y 0)
+    (λ e. let p = f (eqb-true z 0 e) in and-intro (eqb x 0) (eqb y 0) (eq-eqb x 0 (p .0)) (eq-eqb y 0 (p .1)))
+    (λ e. let p = both (eqb x 0) (eqb y 0) e in eq-eqb z 0 (g (eqb-true x 0 (p .0)) (eqb-true y 0 (p .1))))
 
 pub of-T : (b : Bool) → T b → b ≡ true
 of-T true t = refl

@@ -9,3 +9,7 @@ pub mod LowestLaws
 pub mod ShiftLaws
 pub mod OnesLaws
 pub mod NumberBits
+pub mod ZeroBits
+pub mod SetBits
+pub mod Sending
+pub mod PutBytes

@@ -1,16 +1,16 @@
 -- Laws of the small functions on lists. Assumes nothing.
 use mathlib.Core.Path.{_≡_, refl, sym, ap, ap₂, _∙_, subst}
-use mathlib.Core.Bool.{Bool, true, false, not, cond, _&&_, _||_, true≢false, false≢true, and-false, and-true}
-use mathlib.Core.List.{List, [], _∷_, _++_, append-assoc}
-use Prim.Native.Nat.{ℕ, zero, suc, _+_, _-_, _*_, _≤_, _<_}
+use mathlib.Core.Bool.{Bool, true, false, cond, _&&_, _||_, false≢true, and-assoc, and-false, or-true}
+use mathlib.Core.List.{List, [], _∷_, _++_, map, append-assoc, append-nil}
+use Prim.Native.Nat.{ℕ, zero, suc, _+_, _-_, _*_, _%_, _≤_, _<_}
 use native.Mathlib.Nat.{zero-add, mul-suc}
 use native.Mathlib.Omega.{arith}
-use lib.Dec.{T, ltb, leb, eqb, eqb-refl}
+use lib.Dec.{ltb, leb, eqb}
 use lib.ListN.{length, getD, length-append}
-use borrow.Author.Tests.{eq-eqb, ne-eqb, eqb-true, eqb-false, lt-ltb, le-leb, ltb-true, leb-true}
+use borrow.Author.Tests.{eq-eqb, eqb-true, eqb-false, lt-ltb, le-ltb, le-leb, ltb-true, ltb-false, leb-true}
 use Rattle.words.specs.Lists.{count, keep, all, member, join, eachAt, allAt, same, within}
 use Rattle.words.specs.Bytes.{byte}
-use Rattle.words.proofs.BoolLaws.{both, and-intro, by-test}
+use Rattle.words.proofs.BoolLaws.{both, and-intro, same-test, by-test}
 
 -- ---- within
 
@@ -24,6 +24,48 @@ pub true-within : (lo n k : ℕ) → lo ≤ k → k < lo + n → within lo n k �
 unfolding within
 true-within lo n k h j = and-intro (leb lo k) (ltb k (lo + n)) (le-leb lo k h) (lt-ltb k (lo + n) j)
 
+pub not-within : (lo n k : ℕ) → lo + n ≤ k → within lo n k ≡ false
+unfolding within
+not-within lo n k h = by-test (leb lo k) (λ e. rw (e, le-ltb k (lo + n) h)) (λ e. rw e)
+
+-- what is absent stands at 0, and no place from n on is in its n places
+pub absent-apart : (present : Bool) (lo n k : ℕ) → (present ≡ false → lo ≡ 0) → n ≤ k → (present && within lo n k) ≡ within lo n k
+absent-apart true lo n k z h = refl
+absent-apart false lo n k z h = sym (not-within lo n k (let e : lo ≡ 0 = z refl in omega arith))
+
+-- the places below a, and n more
+pub below-more : (a n k : ℕ) → (ltb k a || within a n k) ≡ ltb k (a + n)
+unfolding within
+below-more a n k =
+    by-test (ltb k a) (λ e. rw e (sym (lt-ltb k (a + n) (omega (arith, ltb-true k a e)))))
+    (λ e. rw (e, le-leb a k (ltb-false k a e)))
+
+pub below-longer : (a b k : ℕ) → a ≤ b → (ltb k a || ltb k b) ≡ ltb k b
+below-longer a b k h = by-test (ltb k a) (λ e. rw e (sym (lt-ltb k b (omega (arith, ltb-true k a e))))) (λ e. rw e)
+
+-- a place counted from lo on
+pub below-from : (lo n k : ℕ) → lo ≤ k → ltb (k - lo) n ≡ ltb k (lo + n)
+below-from lo n k h =
+    by-test (ltb (k - lo) n) (λ e. e ∙ sym (lt-ltb k (lo + n) (omega (arith, ltb-true (k - lo) n e))))
+    (λ e. e ∙ sym (le-ltb k (lo + n) (omega (arith, ltb-false (k - lo) n e))))
+
+pub within-shift : (a lo n k : ℕ) → within lo n k ≡ within (a + lo) n (a + k)
+within-shift a lo n k =
+    same-test (within lo n k) (within (a + lo) n (a + k))
+    (λ e. let t = within-true lo n k e in true-within (a + lo) n (a + k) (omega arith) (omega arith))
+    (λ e. let t = within-true (a + lo) n (a + k) e in true-within lo n k (omega arith) (omega arith))
+
+-- n places from o on that cross no multiple of 8, and m places from a on, both multiples of 8: they lie inside or outside whole
+module _ (o n : ℕ) (w : o % 8 + n ≤ 8) (a m : ℕ) (ha : a % 8 ≡ 0) (hm : m % 8 ≡ 0) where
+  pub aligned-inside : within a m o ≡ true → (a ≤ o) × (o - a + n ≤ m)
+  aligned-inside e = let t = within-true a m o e in (t .0, omega arith)
+
+  pub aligned-same : (k : ℕ) → k < n → within a m (o + k) ≡ within a m o
+  aligned-same k h =
+      same-test (within a m (o + k)) (within a m o)
+      (λ e. let t = within-true a m (o + k) e in true-within a m o (omega arith) (omega arith))
+      (λ e. let t = within-true a m o e in true-within a m (o + k) (omega arith) (omega arith))
+
 -- ---- member
 
 member-here : (x y : ℕ) (l : List ℕ) → x ≡ y → member x (y ∷ l) ≡ true
@@ -33,13 +75,9 @@ member-here x y l e = rw (eq-eqb x y e)
 pub member-head : (x : ℕ) (l : List ℕ) → member x (x ∷ l) ≡ true
 member-head x l = member-here x x l refl
 
-or-right : (a b : Bool) → b ≡ true → (a || b) ≡ true
-or-right true b e = refl
-or-right false b e = e
-
 pub member-tail : (x y : ℕ) (l : List ℕ) → member x l ≡ true → member x (y ∷ l) ≡ true
 unfolding member
-member-tail x y l e = or-right (eqb x y) (member x l) e
+member-tail x y l e = rw e (or-true (eqb x y))
 
 -- each member has a property
 abbrev pub Holds : (ℕ → Type 0) → List ℕ → Type 0
@@ -78,6 +116,11 @@ holds-all f [] h = refl
 holds-all f (y ∷ l) h =
     and-intro (f y) (all f l) (holds-head (λ x. f x ≡ true) y l h) (holds-all f l (holds-tail (λ x. f x ≡ true) y l h))
 
+pub all-append : (f : ℕ → Bool) (l r : List ℕ) → all f (l ++ r) ≡ (all f l && all f r)
+unfolding all
+all-append f [] r = refl
+all-append f (x ∷ l) r = ap (λ (b : Bool). f x && b) (all-append f l r) ∙ sym (and-assoc (f x) (all f l) (all f r))
+
 -- ---- count
 
 pub length-count : (i n : ℕ) → length (count i n) ≡ n
@@ -98,6 +141,21 @@ count-member i zero x h j = absurd (omega arith)
 count-member i (suc n) x h j =
     by-test (eqb x i) (λ e. member-here x i (count (suc i) n) (eqb-true x i e))
     (λ e. let ne : x ≡ i → ⊥ = eqb-false x i e in member-tail x i (count (suc i) n) (count-member (suc i) n x (omega (arith, ne)) (omega arith)))
+
+pub member-within : (i n x : ℕ) → member x (count i n) ≡ within i n x
+member-within i n x =
+    same-test (member x (count i n)) (within i n x) (λ e. let m = member-count i n x e in true-within i n x (m .0) (m .1))
+    (λ e. let m = within-true i n x e in count-member i n x (m .0) (m .1))
+
+map-from : {A : Type 0} (f : ℕ → A) (d : A) (i n k : ℕ) → k < n → getD (map f (count i n)) k d ≡ f (i + k)
+unfolding count
+map-from f d i zero k h = absurd (omega arith)
+map-from f d i (suc n) zero h = let e : i + 0 ≡ i = omega arith in rw e
+map-from f d i (suc n) (suc k) h = let e : i + suc k ≡ suc i + k = omega arith in rw e (map-from f d (suc i) n k (omega arith))
+
+-- a function's values at 0, 1, ..
+pub map-count : {A : Type 0} (f : ℕ → A) (d : A) (n k : ℕ) → k < n → getD (map f (count 0 n)) k d ≡ f k
+map-count f d n k h = map-from f d 0 n k h ∙ ap f (zero-add k)
 
 -- a test that passes at each number below n
 pub all-below : (f : ℕ → Bool) (n k : ℕ) → all f (count 0 n) ≡ true → k < n → f k ≡ true
@@ -171,7 +229,38 @@ count-append i (suc m) n =
     let z : i + suc m ≡ suc i + m = omega arith in
     rw (e, z) (ap (λ (l : List ℕ). i ∷ l) (count-append (suc i) m n))
 
+pub all-count : (f : ℕ → Bool) (m n : ℕ) → all f (count 0 (m + n)) ≡ (all f (count 0 m) && all f (count m n))
+all-count f m n =
+    ap (all f) (count-append 0 m n) ∙ all-append f (count 0 m) (count (0 + m) n)
+    ∙ ap (λ (i : ℕ). all f (count 0 m) && all f (count i n)) (zero-add m)
+
+-- a test that fails from n on keeps nothing there
+pub keep-below : (f : ℕ → Bool) (n k : ℕ) → n ≤ k → ((v : ℕ) → n ≤ v → f v ≡ false) → keep f (count 0 n) ≡ keep f (count 0 k)
+keep-below f n k h none =
+    let e : k ≡ n + (k - n) = omega arith in
+    let z : keep f (count (0 + n) (k - n)) ≡ [] = keep-none f (count (0 + n) (k - n)) (λ v m. none v (rw zero-add at (member-count (0 + n) (k - n) v m .0))) in
+    sym (ap (λ (j : ℕ). keep f (count 0 j)) e ∙ ap (keep f) (count-append 0 n (k - n)) ∙ keep-append f (count 0 n) (count (0 + n) (k - n)) ∙ rw (z, append-nil))
+
+-- two such places give the same
+pub keep-same-end : (f : ℕ → Bool) (a b : ℕ) → ((v : ℕ) → a ≤ v → f v ≡ false) → ((v : ℕ) → b ≤ v → f v ≡ false) → keep f (count 0 a) ≡ keep f (count 0 b)
+keep-same-end f a b h g = keep-below f a (a + b) (omega arith) h ∙ sym (keep-below f b (a + b) (omega arith) g)
+
 -- ---- join
+
+-- the first of a list
+pub join-first : (f : ℕ → List ℕ) (x : ℕ) (l m : List ℕ) → l ≡ x ∷ m → join f l ≡ f x ++ join f m
+unfolding join
+join-first f x l m e = ap (join f) e
+
+pub join-none : (f : ℕ → List ℕ) (l : List ℕ) → l ≡ [] → join f l ≡ []
+unfolding join
+join-none f l e = ap (join f) e
+
+-- each part has k elements
+pub join-each : (f : ℕ → List ℕ) (k : ℕ) (l : List ℕ) → ((x : ℕ) → length (f x) ≡ k) → length (join f l) ≡ k * length l
+unfolding join
+join-each f k [] h = omega arith
+join-each f k (x ∷ l) h = rw length-append (omega (arith, h x, join-each f k l h, mul-suc k (length l)))
 
 -- each part has at most k elements
 pub join-length : (f : ℕ → List ℕ) (k : ℕ) (l : List ℕ) → ((x : ℕ) → length (f x) ≤ k) → length (join f l) ≤ k * length l
@@ -187,6 +276,17 @@ pub join-append : (f : ℕ → List ℕ) (l r : List ℕ) → join f (l ++ r) �
 unfolding join
 join-append f [] r = refl
 join-append f (x ∷ l) r = ap (λ (m : List ℕ). f x ++ m) (join-append f l r) ∙ sym (append-assoc (f x) (join f l) (join f r))
+
+-- the same parts
+pub join-same : (f g : ℕ → List ℕ) (l : List ℕ) → ((x : ℕ) → f x ≡ g x) → join f l ≡ join g l
+unfolding join
+join-same f g [] h = refl
+join-same f g (x ∷ l) h = ap₂ _++_ (h x) (join-same f g l h)
+
+pub join-map : (f : ℕ → List ℕ) (g : ℕ → ℕ) (l : List ℕ) → join f (map g l) ≡ join (λ j. f (g j)) l
+unfolding join
+join-map f g [] = refl
+join-map f g (x ∷ l) = ap (λ (m : List ℕ). f (g x) ++ m) (join-map f g l)
 
 -- ---- eachAt, allAt
 
@@ -261,9 +361,3 @@ single f v i (suc n) h a b =
 
 pub keep-here : (f : ℕ → Bool) (v n : ℕ) → ((x : ℕ) → (x ≡ v → ⊥) → x < n → f x ≡ false) → v < n → keep f (count 0 n) ≡ cond (f v) (v ∷ []) []
 keep-here f v n h l = single f v 0 n (λ x m j. h x m (omega arith)) (omega arith) (omega arith)
-
--- the same parts
-pub join-same : (f g : ℕ → List ℕ) (l : List ℕ) → ((x : ℕ) → f x ≡ g x) → join f l ≡ join g l
-unfolding join
-join-same f g [] h = refl
-join-same f g (x ∷ l) h = ap₂ _++_ (h x) (join-same f g l h)

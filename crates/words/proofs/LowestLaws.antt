@@ -1,12 +1,12 @@
 -- The lowest set bit: trailing zeros give it, it is one, and it is the first of the set bits `keep (bit w) (count 0 k)` of a number w of at
 -- most k bits. Assumes nothing.
 use mathlib.Core.Path.{_≡_, refl, sym, ap, _∙_}
-use mathlib.Core.Bool.{Bool, true, false, _&&_, false≢true}
+use mathlib.Core.Bool.{Bool, true, false, false≢true, and-true}
 use mathlib.Core.List.{List, [], _∷_}
 use Prim.Native.Nat.{ℕ, zero, suc, _+_, _-_, _*_, _/_, _%_, _^_, _≤_, _<_}
 use native.Mathlib.Nat.{pow-suc, zero-add, one-mul}
 use native.Mathlib.Omega.{arith}
-use lib.Dec.{eqb, ltb}
+use lib.Dec.{ltb}
 use lib.Pow.{pow-pos, shl-exact}
 use lib.Bits.{bitAnd, and-le-r}
 use lib.Count.{trailingZeros, under}
@@ -15,7 +15,7 @@ use Rattle.words.specs.Lists.{count, keep}
 use Rattle.words.specs.Bits.{bit, clear, clearBit}
 use Rattle.words.specs.Lowest.{Lowest}
 use Rattle.words.proofs.BoolLaws.{by-test}
-use Rattle.words.proofs.BitLaws.{bit-zero, bit-suc, bit-and, bit-power, bit-cleared, bits-ext, bit-above}
+use Rattle.words.proofs.BitLaws.{bit-zero, bit-suc, bit-power, bit-cleared, bit-above, and-part}
 use Rattle.words.proofs.ListLaws.{keep-same, keep-none, keep-append, count-append, member-count}
 
 -- ---- trailing zeros
@@ -59,11 +59,7 @@ lowest-only w v v′ l l′ = omega (arith, not-below w v v′ l l′, not-below
 -- ---- a set bit is cleared by a difference
 
 power-in : (w v : ℕ) → bit w v ≡ true → bitAnd (2 ^ v) w ≡ 2 ^ v
-power-in w v e = bits-ext (bitAnd (2 ^ v) w) (2 ^ v) (λ k. bit-and (2 ^ v) w k ∙ rw (bit-power v k) (at k (eqb k v) refl))
-  where
-    at : (k : ℕ) (b : Bool) → eqb k v ≡ b → (b && bit w k) ≡ b
-    at k true h = ap (bit w) (eqb-true k v h) ∙ e
-    at k false h = refl
+power-in w v e = and-part (2 ^ v) w (λ k h. ap (bit w) (eqb-true k v (sym (bit-power v k) ∙ h)) ∙ e)
 
 pub power-le : (w v : ℕ) → bit w v ≡ true → 2 ^ v ≤ w
 power-le w v e = omega (arith, power-in w v e, and-le-r (2 ^ v) w)
@@ -80,10 +76,6 @@ pub one-shl : (k v : ℕ) → v < k → (1 * 2 ^ v) % 2 ^ k ≡ 2 ^ v
 one-shl k v h = shl-exact 1 v k (omega arith) (omega arith) ∙ one-mul (2 ^ v)
 
 -- ---- the set bits in rising order
-
-and-true : (b : Bool) → (b && true) ≡ b
-and-true true = refl
-and-true false = refl
 
 module _ (k w v : ℕ) (u : w < 2 ^ k) (l : Lowest w v) where
   rest : List ℕ

@@ -1,17 +1,17 @@
 -- The bits of a number of n bytes are those of its bytes. Assumes nothing.
-use mathlib.Core.Path.{_≡_, sym, ap, ap₂, _∙_}
+use mathlib.Core.Path.{_≡_, refl, sym, ap, ap₂, _∙_}
 use Prim.Native.Nat.{ℕ, zero, suc, _+_, _-_, _*_, _/_, _%_, _^_, _≤_, _<_}
 use native.Mathlib.Nat.{pow-suc}
 use native.Mathlib.Omega.{arith}
 use lib.Dec.{eqb, ltb}
 use lib.Pow.{shr-shr, high}
-use lib.Bits.{block-half, block-odd}
+use lib.Bits.{bitAnd, and-block, block-half, block-odd}
 use borrow.Author.Tests.{ltb-true, ltb-false}
-use Rattle.words.specs.Bits.{bit}
+use Rattle.words.specs.Bits.{bit, clear}
 use Rattle.words.specs.Bytes.{byte, bitAt, number, bytesOf}
 use Rattle.words.proofs.BoolLaws.{by-test}
-use Rattle.words.proofs.BitLaws.{bit-zero, bit-suc}
-use Rattle.words.proofs.ByteLaws.{bytesOf-lt, number-bytesOf}
+use Rattle.words.proofs.BitLaws.{bit-zero, bit-suc, clear-ones}
+use Rattle.words.proofs.ByteLaws.{bytesOf-lt, number-lt, number-bytesOf}
 use Rattle.words.proofs.NumberLaws.{number-more}
 
 -- ---- s low bits r, and the number a above them
@@ -56,3 +56,25 @@ pub bit-bytesOf : (n x k : ℕ) → x < 256 ^ n → k < 8 * n → bitAt (bytesOf
 unfolding bitAt
 bit-bytesOf n x k h l =
     sym (bit-number (byte (bytesOf n x)) (bytesOf-lt n x) 0 n k l) ∙ ap (λ (y : ℕ). bit y k) (number-bytesOf n x h)
+
+-- ---- and, and the complement, byte by byte
+
+module _ (f g : ℕ → ℕ) (hf : (k : ℕ) → f k < 256) (hg : (k : ℕ) → g k < 256) where
+  pub number-and : (i n : ℕ) → bitAnd (number f i n) (number g i n) ≡ number (λ k. bitAnd (f k) (g k)) i n
+  unfolding number
+  number-and i zero = refl
+  number-and i (suc n) =
+      ap₂ bitAnd (number-more f i n) (number-more g i n)
+      ∙ and-block 8 (number f (suc i) n) (number g (suc i) n) (f i) (g i) (hf i) (hg i)
+      ∙ ap (λ (x : ℕ). x * 256 + bitAnd (f i) (g i)) (number-and (suc i) n)
+      ∙ sym (number-more (λ k. bitAnd (f k) (g k)) i n)
+
+number-not : (f : ℕ → ℕ) → ((k : ℕ) → f k < 256) → (i n : ℕ) → number f i n + number (λ k. clear (f k) 0xff) i n ≡ 256 ^ n - 1
+unfolding number
+number-not f h i zero = omega arith
+number-not f h i (suc n) =
+    let p : 256 ^ suc n ≡ 256 ^ n * 256 = pow-suc 256 n in
+    omega (arith, number-not f h (suc i) n, number-lt f (suc i) n h, clear-ones 8 (f i) (h i), h i)
+
+pub not-number : (n x : ℕ) → x < 256 ^ n → number (λ k. clear (byte (bytesOf n x) k) 0xff) 0 n ≡ 256 ^ n - 1 - x
+not-number n x h = omega (arith, number-not (byte (bytesOf n x)) (bytesOf-lt n x) 0 n, number-bytesOf n x h)

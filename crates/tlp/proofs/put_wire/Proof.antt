@@ -1,7 +1,7 @@
 -- The packet is copied. Assumes nothing.
 use mathlib.Core.Path.{sym}
 use Rattle.model.specs.Packets.{wireMessage}
-use Rattle.tlp.proofs.WordLaws.{bytesHigh-two}
+use Rattle.words.proofs.ByteLaws.{bytesHigh-two}
 use borrow.Author.Needs.{needs}
 use Rattle.tlp.proofs.put_wire.Statement.{statement}
 use Rattle.tlp.proofs.put_wire.Tie as tie

@@ -4,7 +4,7 @@ use mathlib.Core.Path.{_≡_, refl, sym}
 use Prim.Native.Nat.{_-_, _≤_}
 use native.Mathlib.Omega.{arith}
 use lib.ListN.{length, length-set}
-use Rattle.image.proofs.FillLaws.{Filled, fill-start, fill-next, fill-end}
+use Rattle.words.proofs.PutLaws.{Filled, fill-start, fill-next, fill-end}
 use borrow.Author.Needs.{needs}
 use Rattle.capi.proofs.given.config_of.Statement.{statement}
 use Rattle.capi.proofs.given.config_of.Tie as tie

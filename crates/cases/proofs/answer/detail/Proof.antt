@@ -1,5 +1,4 @@
 -- The number that the variant holds, or 0. Assumes nothing.
-use Rattle.model.specs.Play.{detailOf}
 use borrow.Author.Needs.{needs}
 use Rattle.cases.proofs.answer.detail.Statement.{statement}
 use Rattle.cases.proofs.answer.detail.Tie as tie
@@ -29,31 +28,24 @@ enum-told-5 : tie.Need-enum-told-5
 enum-told-5 c = search needs
 
 returns : tie.Need-returns
-unfolding detailOf
 returns c = rw (c .before .a .given .1)
 
 returns-2 : tie.Need-returns-2
-unfolding detailOf
 returns-2 c = rw (c .before .a2 .given .1)
 
 returns-3 : tie.Need-returns-3
-unfolding detailOf
 returns-3 c = rw (c .enum-told .given .1)
 
 returns-4 : tie.Need-returns-4
-unfolding detailOf
 returns-4 c = rw (c .enum-told2 .given .1)
 
 returns-5 : tie.Need-returns-5
-unfolding detailOf
 returns-5 c = rw (c .enum-told3 .given .1)
 
 returns-6 : tie.Need-returns-6
-unfolding detailOf
 returns-6 c = rw (c .enum-told4 .given .1)
 
 returns-7 : tie.Need-returns-7
-unfolding detailOf
 returns-7 c = rw (c .enum-told5 .given .1)
 
 pub detail-spec : {M : Type 1} → statement M

@@ -1,5 +1,4 @@
 -- A number for each variant. Assumes nothing.
-use Rattle.model.specs.Play.{kindOf}
 use borrow.Author.Needs.{needs}
 use Rattle.cases.proofs.answer.kind.Statement.{statement}
 use Rattle.cases.proofs.answer.kind.Tie as tie
@@ -26,31 +25,24 @@ enum-told-7 : tie.Need-enum-told-7
 enum-told-7 c = search needs
 
 returns : tie.Need-returns
-unfolding kindOf
 returns c = rw (c .enum-told .given .1)
 
 returns-2 : tie.Need-returns-2
-unfolding kindOf
 returns-2 c = rw (c .enum-told2 .given .1)
 
 returns-3 : tie.Need-returns-3
-unfolding kindOf
 returns-3 c = rw (c .enum-told3 .given .1)
 
 returns-4 : tie.Need-returns-4
-unfolding kindOf
 returns-4 c = rw (c .enum-told4 .given .1)
 
 returns-5 : tie.Need-returns-5
-unfolding kindOf
 returns-5 c = rw (c .enum-told5 .given .1)
 
 returns-6 : tie.Need-returns-6
-unfolding kindOf
 returns-6 c = rw (c .enum-told6 .given .1)
 
 returns-7 : tie.Need-returns-7
-unfolding kindOf
 returns-7 c = rw (c .enum-told7 .given .1)
 
 pub kind-spec : {M : Type 1} → statement M

@@ -1,4 +1,4 @@
-use Rattle.cases.proofs.MatchLaws.{other-kind, same-kind}
+use Rattle.model.proofs.PlayLaws.{other-kind, same-kind}
 use borrow.Author.Needs.{needs}
 use Rattle.cases.proofs.answer.same_answer.Statement.{statement}
 use Rattle.cases.proofs.answer.same_answer.Tie as tie

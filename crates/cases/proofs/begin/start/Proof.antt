@@ -1,5 +1,5 @@
 use Rattle.cases.proofs.BufferLaws.{written-part}
-use Rattle.cases.proofs.PlayLaws.{begins}
+use Rattle.cases.proofs.RunLaws.{begins}
 use borrow.Author.Needs.{needs}
 use Rattle.cases.proofs.begin.start.Statement.{statement}
 use Rattle.cases.proofs.begin.start.Tie as tie

@@ -1,6 +1,6 @@
 use Rattle.model.specs.Cases.{stores}
 use Rattle.cases.proofs.BufferLaws.{written-part}
-use Rattle.cases.proofs.PlayLaws.{plays, stepped}
+use Rattle.cases.proofs.RunLaws.{plays, stepped}
 use mathlib.Core.Path.{refl}
 use denote.Ref.{now}
 use borrow.Author.Needs.{needs}

@@ -1,5 +1,5 @@
 use Rattle.cases.proofs.BufferLaws.{lent-part, written-part}
-use Rattle.cases.proofs.PlayLaws.{plays, stepped}
+use Rattle.cases.proofs.RunLaws.{plays, stepped}
 use mathlib.Core.Path.{refl, sym}
 use Rattle.model.specs.Cases.{writes}
 use denote.Ref.{now}

@@ -1,7 +1,7 @@
 use Rattle.model.specs.Play.{fresh}
 use Rattle.model.specs.Cases.{raises}
 use Rattle.cases.proofs.BufferLaws.{lent-part, written-part, written-back, written-within, equal-part}
-use Rattle.cases.proofs.PlayLaws.{plays, stepped, over-equal}
+use Rattle.cases.proofs.RunLaws.{plays, stepped, over-equal}
 use Rattle.io.proofs.Counting.{counts}
 use mathlib.Core.Path.{refl, sym}
 use denote.Ref.{now}

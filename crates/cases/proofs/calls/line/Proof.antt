@@ -1,6 +1,6 @@
 use Rattle.model.specs.Cases.{drives}
 use Rattle.cases.proofs.BufferLaws.{lent-part}
-use Rattle.cases.proofs.PlayLaws.{plays, stepped}
+use Rattle.cases.proofs.RunLaws.{plays, stepped}
 use mathlib.Core.Path.{refl, sym}
 use denote.Ref.{now}
 use borrow.Author.Needs.{needs}

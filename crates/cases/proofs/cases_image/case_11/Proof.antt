@@ -1,5 +1,5 @@
 use Rattle.cases.specs.Runs.{seen}
-use Rattle.cases.proofs.CaseLaws.{starts, then-one, good-play, starred-pass}
+use Rattle.model.proofs.PlayLaws.{starts, then-one, good-play, starred-pass}
 use Rattle.model.specs.Cases.{saves, case11}
 use Rattle.model.specs.Play.{played}
 use Prim.Native.Nat.{ℕ}

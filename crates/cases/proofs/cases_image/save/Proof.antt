@@ -1,4 +1,4 @@
-use Rattle.cases.proofs.PlayLaws.{stepped-kept}
+use Rattle.cases.proofs.RunLaws.{stepped-kept}
 use borrow.Author.Needs.{needs}
 use Rattle.cases.proofs.cases_image.save.Statement.{statement}
 use Rattle.cases.proofs.cases_image.save.Tie as tie

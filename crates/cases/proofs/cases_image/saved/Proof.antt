@@ -1,5 +1,5 @@
 use Rattle.model.specs.Cases.{saves}
-use Rattle.cases.proofs.PlayLaws.{plays}
+use Rattle.cases.proofs.RunLaws.{plays}
 use mathlib.Core.Path.{refl}
 use denote.Ref.{now}
 use borrow.Author.Needs.{needs}

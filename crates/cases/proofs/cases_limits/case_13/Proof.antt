@@ -1,4 +1,4 @@
-use Rattle.cases.proofs.CaseLaws.{good-start, limits-hold}
+use Rattle.model.proofs.PlayLaws.{good-start, limits-hold}
 use Rattle.words.proofs.BoolLaws.{and-intro}
 use borrow.Author.Needs.{needs}
 use Rattle.cases.proofs.cases_limits.case_13.Statement.{statement}

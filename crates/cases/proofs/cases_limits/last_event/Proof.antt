@@ -1,4 +1,4 @@
-use Rattle.cases.proofs.CaseLaws.{then-one, good-play, limits-hold}
+use Rattle.model.proofs.PlayLaws.{then-one, good-play, limits-hold}
 use Rattle.model.specs.Cases.{lastEvent}
 use borrow.Author.Needs.{needs}
 use Rattle.cases.proofs.cases_limits.last_event.Statement.{statement}

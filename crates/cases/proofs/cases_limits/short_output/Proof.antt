@@ -1,4 +1,5 @@
-use Rattle.cases.proofs.CaseLaws.{then-one, good-play, limits-hold, kept-short}
+use Rattle.model.proofs.PlayLaws.{then-one, good-play, limits-hold}
+use Rattle.cases.proofs.CaseLaws.{kept-short}
 use Rattle.model.specs.Cases.{shortOutput}
 use Rattle.words.proofs.BoolLaws.{and-intro}
 use borrow.Author.Needs.{needs}

@@ -1,5 +1,4 @@
 use Rattle.cases.specs.Runs.{imageIn}
-use Rattle.model.specs.Play.{imageTaken}
 use mathlib.Core.Path.{ap}
 use borrow.Author.Needs.{needs}
 use Rattle.cases.proofs.cases_limits.take_image.Statement.{statement}
@@ -12,7 +11,6 @@ save-requires : tie.Need-save-requires
 save-requires c κs = search needs
 
 returns : tie.Need-returns
-unfolding imageTaken
 returns c = ap imageIn (c .before .save .ensures)
 
 pub take-image-spec : {M : Type 1} → statement M

@@ -1,4 +1,4 @@
-use Rattle.cases.proofs.CaseLaws.{none, then-one}
+use Rattle.model.proofs.PlayLaws.{none, then-one}
 use borrow.Author.Needs.{needs}
 use Rattle.cases.proofs.cases_msix.entry.Statement.{statement}
 use Rattle.cases.proofs.cases_msix.entry.Tie as tie

@@ -1,4 +1,4 @@
-use Rattle.cases.proofs.CaseLaws.{starts, then-one, good-play, starred-pass}
+use Rattle.model.proofs.PlayLaws.{starts, then-one, good-play, starred-pass}
 use Rattle.model.specs.Cases.{case6}
 use borrow.Author.Needs.{needs}
 use Rattle.cases.proofs.cases_wire.case_6.Statement.{statement}

@@ -1,4 +1,4 @@
-use Rattle.cases.proofs.CaseLaws.{then-one}
+use Rattle.model.proofs.PlayLaws.{then-one}
 use borrow.Author.Needs.{needs}
 use Rattle.cases.proofs.cases_wire.one_waits.Statement.{statement}
 use Rattle.cases.proofs.cases_wire.one_waits.Tie as tie

@@ -1,4 +1,3 @@
-use Rattle.model.specs.Cases.{header}
 use mathlib.Core.Path.{refl}
 use borrow.Author.Needs.{needs}
 use Rattle.cases.proofs.config.header.Statement.{statement}
@@ -8,7 +7,6 @@ array-write-config : tie.Need-array-write-config
 array-write-config c = search needs
 
 returns : tie.Need-returns
-unfolding header
 returns c = refl
 
 pub header-spec : {M : Type 1} → statement M

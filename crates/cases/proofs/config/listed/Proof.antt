@@ -1,4 +1,3 @@
-use Rattle.model.specs.Cases.{listed}
 use borrow.Author.Needs.{needs}
 use Rattle.cases.proofs.config.listed.Statement.{statement}
 use Rattle.cases.proofs.config.listed.Tie as tie
@@ -13,7 +12,6 @@ array-write-config-2 : tie.Need-array-write-config-2
 array-write-config-2 c = search needs
 
 returns : tie.Need-returns
-unfolding listed
 returns c = rw (c .header .ensures)
 
 pub listed-spec : {M : Type 1} → statement M

@@ -1,4 +1,4 @@
-use Rattle.model.specs.Cases.{put, msiCard}
+use Rattle.model.specs.Cases.{put}
 use Rattle.words.specs.Bytes.{bytesOf}
 use Prim.Native.Nat.{ℕ}
 use mathlib.Core.List.{List}
@@ -14,7 +14,6 @@ with-word-requires : tie.Need-with-word-requires
 with-word-requires c κs = search needs
 
 returns : tie.Need-returns
-unfolding msiCard
 returns c = (c .with-word .ensures) ∙ ap (put 0x40 (bytesOf 4 0x00060005)) (c .before .listed .ensures)
 
 pub msi-spec : {M : Type 1} → statement M

@@ -1,5 +1,4 @@
 use Rattle.cases.proofs.ConfigLaws.{no-link}
-use Rattle.model.specs.Cases.{msixCard}
 use borrow.Author.Needs.{needs}
 use Rattle.cases.proofs.config.msix.Statement.{statement}
 use Rattle.cases.proofs.config.msix.Tie as tie
@@ -29,7 +28,6 @@ with-word-requires-3 : tie.Need-with-word-requires-3
 with-word-requires-3 c κs = search needs
 
 returns : tie.Need-returns
-unfolding msixCard
 returns c = rw ((c .with-word3 .ensures), (c .before .with-word2 .ensures), (c .before .before .with-word .ensures), (c .before .before .before .listed .ensures), no-link)
 
 pub msix-spec : {M : Type 1} → statement M

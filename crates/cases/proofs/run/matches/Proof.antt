@@ -1,4 +1,4 @@
-use Rattle.cases.proofs.MatchLaws.{other-answer, other-count, other-bytes, right-bytes}
+use Rattle.cases.proofs.MatchLaws.{wrong-answer, wrong-count, wrong-bytes, right-bytes}
 use borrow.Author.Needs.{needs}
 use Rattle.cases.proofs.run.matches.Statement.{statement}
 use Rattle.cases.proofs.run.matches.Tie as tie
@@ -7,10 +7,10 @@ same-answer-requires : tie.Need-same-answer-requires
 same-answer-requires c κs = search needs
 
 returns : tie.Need-returns
-returns c = other-answer _ _ _ _ _ _ (c .before .same-answer .ensures) (c .if1 .taken)
+returns c = wrong-answer _ _ _ _ _ _ (c .before .same-answer .ensures) (c .if1 .taken)
 
 returns-2 : tie.Need-returns-2
-returns-2 c = other-count _ _ _ _ _ _ (c .before .before .before .same-answer .ensures) (c .before .before .if1 .left) (c .if2 .taken)
+returns-2 c = wrong-count _ _ _ _ _ _ (c .before .before .before .same-answer .ensures) (c .before .before .if1 .left) (c .if2 .taken)
 
 within-requires : tie.Need-within-requires
 within-requires c κs = search needs
@@ -22,7 +22,7 @@ same-requires : tie.Need-same-requires
 same-requires c κs = search needs
 
 returns-3 : tie.Need-returns-3
-returns-3 c = other-bytes _ _ _ _ _ _ (c .before .before .before .before .before .before .before .same-answer .ensures) (c .before .before .before .before .before .before .if1 .left) (c .before .before .before .before .if2 .left) _ (c .before .before .before .within .ensures .1) _ (c .before .same .ensures) (c .if3 .taken)
+returns-3 c = wrong-bytes _ _ _ _ _ _ (c .before .before .before .before .before .before .before .same-answer .ensures) (c .before .before .before .before .before .before .if1 .left) (c .before .before .before .before .if2 .left) _ (c .before .before .before .within .ensures .1) _ (c .before .same .ensures) (c .if3 .taken)
 
 within-requires-2 : tie.Need-within-requires-2
 within-requires-2 c κs = search needs

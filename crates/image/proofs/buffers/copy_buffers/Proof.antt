@@ -7,7 +7,7 @@ use native.Mathlib.Omega.{arith}
 use lib.ListN.{length, take, drop, length-drop}
 use lib.Seq.{length-take-le, take-all, drop-drop}
 use Rattle.words.specs.Writers.{over}
-use Rattle.image.proofs.FillLaws.{over-all}
+use Rattle.words.proofs.PutLaws.{over-all}
 use borrow.Author.Needs.{needs}
 use Rattle.image.proofs.buffers.copy_buffers.Statement.{statement}
 use Rattle.image.proofs.buffers.copy_buffers.Tie as tie

@@ -5,7 +5,8 @@ use Prim.Native.Nat.{_-_, _≤_}
 use native.Mathlib.Omega.{arith}
 use lib.ListN.{length, length-set}
 use Rattle.words.specs.Bytes.{part}
-use Rattle.image.proofs.FillLaws.{Filled, fill-start, fill-next, fill-end, length-part, byte-part}
+use Rattle.words.proofs.ByteLaws.{length-part, byte-part}
+use Rattle.words.proofs.PutLaws.{Filled, fill-start, fill-next, fill-end}
 use borrow.Author.Needs.{needs}
 use Rattle.image.proofs.get.config_at.Statement.{statement}
 use Rattle.image.proofs.get.config_at.Tie as tie

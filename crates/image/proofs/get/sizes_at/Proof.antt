@@ -6,7 +6,8 @@ use native.Mathlib.Omega.{arith}
 use lib.ListN.{length, drop, length-set}
 use Rattle.words.specs.Bytes.{words32}
 use Rattle.model.proofs.ImageExact.{length-words}
-use Rattle.image.proofs.FillLaws.{Filled, fill-start, fill-next, fill-end, word-drop, byte-words}
+use Rattle.words.proofs.ByteLaws.{word-drop, byte-words}
+use Rattle.words.proofs.PutLaws.{Filled, fill-start, fill-next, fill-end}
 use borrow.Author.Needs.{needs}
 use Rattle.image.proofs.get.sizes_at.Statement.{statement}
 use Rattle.image.proofs.get.sizes_at.Tie as tie

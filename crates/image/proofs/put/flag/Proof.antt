@@ -1,5 +1,5 @@
 -- A bool as a number is 1 or 0. Assumes nothing.
-use Rattle.image.proofs.CardLaws.{flag-number, flag-small}
+use Rattle.words.proofs.BitLaws.{flag-number, flag-small}
 use borrow.Author.Needs.{needs}
 use Rattle.image.proofs.put.flag.Statement.{statement}
 use Rattle.image.proofs.put.flag.Tie as tie

@@ -7,7 +7,7 @@ use Rattle.words.specs.Lists.{join}
 use Rattle.words.specs.Bytes.{byte, bytesOf}
 use Rattle.words.specs.Writers.{putAt, over}
 use Rattle.words.proofs.ByteLaws.{length-bytesOf, length-join32}
-use Rattle.image.proofs.Writing.{join-next, join-end}
+use Rattle.words.proofs.Sending.{join-next, join-end}
 use borrow.Author.Needs.{needs}
 use Rattle.image.proofs.put.put_sizes.Statement.{statement}
 use Rattle.image.proofs.put.put_sizes.Tie as tie

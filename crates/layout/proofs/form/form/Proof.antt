@@ -1,16 +1,18 @@
 -- The row of two control bits: the table is the definition's values at 0 to 3, and the two bits are the row's. Assumes nothing.
 use mathlib.Core.Path.{_≡_, refl, _∙_}
 use mathlib.Core.Bool.{Bool, true, false}
-use mathlib.Core.List.{List, [], _∷_}
+use mathlib.Core.List.{List, [], _∷_, map}
 use Prim.Native.Nat.{ℕ, _+_, _*_, _<_}
 use native.Mathlib.Omega.{arith}
 use borrow.Author.Needs.{needs}
 use lib.ListN.{getD}
 use mir.Val.{boolByte}
+use Rattle.words.specs.Lists.{count}
 use Rattle.words.specs.Bits.{bit}
+use Rattle.words.proofs.BitLaws.{flag-small}
+use Rattle.words.proofs.ListLaws.{map-count}
 use Rattle.model.specs.Shape.{row, forms, formOf}
 use Rattle.model.specs.declared.Form.{Form}
-use Rattle.layout.proofs.Tables.{values, entry}
 use Rattle.layout.proofs.form.form.Statement.{statement}
 use Rattle.layout.proofs.form.form.Tie as tie
 
@@ -21,16 +23,12 @@ table = row 0x08 0 0 10 ∷ row 0x0c 0 0 14 ∷ row 0x08 0x0c 0x10 20 ∷ row 0x
 formAt : ℕ → Form
 formAt k = forms (bit k 1) (bit k 0)
 
-rule : table ≡ values formAt 0 4
-unfolding table values formAt forms bit
+rule : table ≡ map formAt (count 0 4)
+unfolding table count formAt forms bit
 rule = refl
 
-small : (b : Bool) → boolByte b < 2
-small false = omega arith
-small true = omega arith
-
 below : (wide masks : Bool) → boolByte wide + 2 * boolByte masks < 4
-below wide masks = omega (arith, small wide, small masks)
+below wide masks = omega (arith, flag-small wide, flag-small masks)
 
 bits : (wide masks : Bool) → formAt (boolByte wide + 2 * boolByte masks) ≡ forms masks wide
 unfolding formAt bit
@@ -40,7 +38,7 @@ bits true false = refl
 bits true true = refl
 
 at : (wide masks : Bool) (d : Form) → getD table (boolByte wide + 2 * boolByte masks) d ≡ forms masks wide
-at wide masks d = rw rule (entry formAt d 4 (boolByte wide + 2 * boolByte masks) (below wide masks) ∙ bits wide masks)
+at wide masks d = rw rule (map-count formAt d 4 (boolByte wide + 2 * boolByte masks) (below wide masks) ∙ bits wide masks)
 
 cast-row : tie.Need-cast-row
 cast-row c = search needs
@@ -49,16 +47,16 @@ cast-row-2 : tie.Need-cast-row-2
 cast-row-2 c = search needs
 
 mul-row : tie.Need-mul-row
-mul-row c = omega (arith, small (c .before .before .args .s .msi .wide), small (c .before .before .args .s .msi .masks))
+mul-row c = omega (arith, flag-small (c .before .before .args .s .msi .wide), flag-small (c .before .before .args .s .msi .masks))
 
 add-row : tie.Need-add-row
-add-row c = omega (arith, small (c .before .before .args .s .msi .wide), small (c .before .before .args .s .msi .masks))
+add-row c = omega (arith, flag-small (c .before .before .args .s .msi .wide), flag-small (c .before .before .args .s .msi .masks))
 
 mul-result : tie.Need-mul-result
-mul-result c = omega (arith, small (c .before .before .args .s .msi .wide), small (c .before .before .args .s .msi .masks))
+mul-result c = omega (arith, flag-small (c .before .before .args .s .msi .wide), flag-small (c .before .before .args .s .msi .masks))
 
 array-copy-out-result : tie.Need-array-copy-out-result
-array-copy-out-result c = omega (arith, small (c .before .before .args .s .msi .wide), small (c .before .before .args .s .msi .masks))
+array-copy-out-result c = omega (arith, flag-small (c .before .before .args .s .msi .wide), flag-small (c .before .before .args .s .msi .masks))
 
 returns : tie.Need-returns
 unfolding formOf table

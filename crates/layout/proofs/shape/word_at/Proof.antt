@@ -2,7 +2,7 @@
 use denote.Ref.{now}
 use mathlib.Core.Path.{sym}
 use native.Mathlib.Omega.{arith}
-use Rattle.layout.proofs.ShapeFound.{word-past}
+use Rattle.words.proofs.ByteLaws.{word-past}
 use borrow.Author.Needs.{needs}
 use Rattle.layout.proofs.shape.word_at.Statement.{statement}
 use Rattle.layout.proofs.shape.word_at.Tie as tie

@@ -1,6 +1,6 @@
 -- A byte is what a shift leaves. Assumes nothing.
 use mathlib.Core.Path.{sym}
-use Rattle.registers.proofs.MaskLaws.{byte-of}
+use Rattle.words.proofs.ByteLaws.{byte-of}
 use borrow.Author.Needs.{needs}
 use Rattle.registers.proofs.masks.byte_of.Statement.{statement}
 use Rattle.registers.proofs.masks.byte_of.Tie as tie

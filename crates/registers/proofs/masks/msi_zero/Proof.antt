@@ -6,7 +6,8 @@ use native.Mathlib.Omega.{arith}
 use borrow.Author.Tests.{eq-eqb, ne-eqb}
 use Rattle.words.proofs.ListLaws.{within-true}
 use Rattle.words.proofs.ByteLaws.{bytesOf-lt}
-use Rattle.registers.proofs.MaskLaws.{low-zero, shut-mask, pending-register, clear-ones}
+use Rattle.words.proofs.BitLaws.{clear-ones}
+use Rattle.registers.proofs.MaskLaws.{low-zero, shut-mask, pending-register}
 use Rattle.model.specs.Registers.{maskBytes}
 use borrow.Author.Needs.{needs}
 use Rattle.registers.proofs.masks.msi_zero.Statement.{statement}
@@ -40,7 +41,7 @@ returns-3 : tie.Need-returns-3
 unfolding maskBytes
 returns-3 c =
     let a = c .before .before .before .before .before .args in
-    ap (λ (x : ℕ). 0xff - x) (c .mask-byte .ensures) ∙ clear-ones _ (bytesOf-lt 4 _ (a .k - a .f .mask))
+    ap (λ (x : ℕ). 0xff - x) (c .mask-byte .ensures) ∙ clear-ones 8 _ (bytesOf-lt 4 _ (a .k - a .f .mask))
     ∙ shut-mask (a .s) (a .f) (c .before .before .before .before .before .pre .1) (a .k) (c .before .before .before .before .if1 .left) (sym (c .before .before .before .within .ensures) ∙ c .before .before .if3 .taken)
 
 within-requires-2 : tie.Need-within-requires-2

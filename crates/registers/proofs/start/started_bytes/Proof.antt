@@ -1,24 +1,17 @@
 -- The bytes of c from place i on are still to be stored; then four parts are fixed. Assumes nothing.
 use mathlib.Core.Path.{_≡_, refl, ap, _∙_}
-use mathlib.Core.List.{List, _∷_, append-nil}
-use Prim.Native.Nat.{ℕ, _+_, _-_, _≤_, _<_, min}
-use native.Mathlib.Numerals.{add-one}
+use Prim.Native.Nat.{_+_, _-_, _≤_, _<_, min}
 use native.Mathlib.Omega.{arith}
-use lib.ListN.{length, drop, length-set, drop-of-length-le}
-use lib.Seq.{drop-cons}
+use lib.ListN.{length, drop, length-set}
 use denote.Ref.{now}
-use Rattle.words.specs.Bytes.{byte}
 use Rattle.words.specs.Writers.{putAt}
-use Rattle.words.proofs.PutLaws.{put-next, put-end}
+use Rattle.words.proofs.PutLaws.{over-all, copy-next, copy-end}
 use Rattle.model.specs.declared.Form.{Form}
 use Rattle.model.specs.Registers.{startedConfig}
 use Rattle.registers.proofs.PartLaws.{four-parts}
 use borrow.Author.Needs.{needs}
 use Rattle.registers.proofs.start.started_bytes.Statement.{statement}
 use Rattle.registers.proofs.start.started_bytes.Tie as tie
-
-whole : (w o : List ℕ) → length o ≤ length w → putAt 0 w o ≡ w
-whole w o h = rw (drop-of-length-le o h, append-nil)
 
 abbrev Inv-loop : tie.InvT-loop
 Inv-loop c s config₀ i₀ config i = (i ≤ 256) × (length config ≡ 256) × (putAt i (drop i c) config ≡ c)
@@ -27,7 +20,7 @@ abbrev μ-loop : tie.MeasureT-loop
 μ-loop c s config₀ i₀ config i = 256 - i
 
 loop-holds : tie.Need-loop-holds Inv-loop μ-loop
-loop-holds c = (omega arith, refl, whole (now (c .before .args .c)) _ (omega (arith, c .before .pre .0)))
+loop-holds c = (omega arith, refl, over-all (now (c .before .args .c)) _ (omega (arith, c .before .pre .0)))
 
 shared-slice-read-config : tie.Need-shared-slice-read-config Inv-loop μ-loop
 shared-slice-read-config c = search needs
@@ -46,8 +39,7 @@ loop-again c =
     let v = c .before .before .loop in
     let o = now (c .before .before .before .before .args .c) in
     let h : v .i < length o = omega (arith, c .before .before .before .before .pre .0) in
-    let e : drop (v .i) o ≡ byte o (v .i) ∷ drop (v .i + 1) o = rw add-one (drop-cons o (v .i) 0 h) in
-    (omega arith, simp length-set (v .inv .1), put-next (v .i) (byte o (v .i)) _ _ (v .config) _ (omega arith) e (v .inv .2))
+    (omega arith, simp length-set (v .inv .1), copy-next o (v .i) (v .config) _ (v .inv .2) h (omega arith))
 
 form-requires : tie.Need-form-requires Inv-loop μ-loop
 form-requires c κs = search needs
@@ -89,7 +81,7 @@ returns c =
     let s = d .args .s in
     let o = now (d .args .c) in
     let h : length o ≤ v .i = omega (arith, d .pre .0, c .before .before .before .before .before .before .before .before .before .before .before .before .before .before .before .loop-test .left) in
-    let copied : v .config ≡ o = put-end (v .i) _ (v .config) _ (drop-of-length-le o h) (v .inv .2) in
+    let copied : v .config ≡ o = copy-end o (v .i) (v .config) _ (v .inv .2) h in
     let size = ap (λ (f : Form). min (s .msi .at + f .size) 256) (c .before .before .before .before .before .before .before .before .before .before .before .before .before .before .form .ensures) in
     four-parts s (v .config) _ _ (c .before .before .before .before .before .before .part-end .ensures ∙ size) (c .before .before .part-end2 .ensures) (v .inv .1) _ _ _ _
     (c .before .before .before .before .before .before .before .before .before .before .before .before .fix-part .ensures)

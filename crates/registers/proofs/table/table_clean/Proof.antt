@@ -8,7 +8,8 @@ use lib.Dec.{eqb}
 use denote.Ref.{now}
 use Rattle.words.specs.Lists.{all, count}
 use Rattle.model.specs.Registers.{entryZero}
-use Rattle.registers.proofs.CleanLaws.{clean, zero-bits}
+use Rattle.words.proofs.ZeroBits.{clean}
+use Rattle.registers.proofs.CleanLaws.{zero-bits}
 use Rattle.registers.proofs.EntryLaws.{entry-clean}
 use borrow.Author.Needs.{needs}
 use Rattle.registers.proofs.table.table_clean.Statement.{statement}

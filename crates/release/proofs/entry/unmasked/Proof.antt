@@ -4,7 +4,7 @@ use Prim.Native.Nat.{ℕ, _+_, _<_}
 use native.Mathlib.Omega.{arith}
 use denote.Ref.{now}
 use Rattle.release.specs.Owed.{entries}
-use Rattle.release.proofs.SetBits.{Turn, turn}
+use Rattle.words.proofs.SetBits.{Turn, turn}
 use Rattle.release.proofs.Masking.{Masking, masking-all, masking-next, masking-done}
 use borrow.Author.Needs.{needs}
 use Rattle.release.proofs.entry.unmasked.Statement.{statement}

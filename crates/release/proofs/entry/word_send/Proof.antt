@@ -9,9 +9,9 @@ use denote.Ref.{now}
 use Rattle.words.proofs.Writers.{placed}
 use Rattle.words.proofs.OnesLaws.{no-set-bits}
 use Rattle.release.specs.Owed.{entries, entryMessage, wordPackets}
-use Rattle.release.proofs.SetBits.{Turn, turn, Remaining, remaining-all, remaining-next}
-use Rattle.release.proofs.Joins.{join-first, join-none}
-use Rattle.release.proofs.Sending.{Sending, sending-all, sending-fits, sending-next, sending-done}
+use Rattle.words.proofs.SetBits.{Turn, turn, Remaining, remaining-all, remaining-next}
+use Rattle.words.proofs.ListLaws.{join-first, join-none}
+use Rattle.words.proofs.Sending.{Sending, sending-all, sending-fits, sending-next, sending-done}
 use borrow.Author.Needs.{needs}
 use Rattle.release.proofs.entry.word_send.Statement.{statement}
 use Rattle.release.proofs.entry.word_send.Tie as tie

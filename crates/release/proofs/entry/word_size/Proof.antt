@@ -9,8 +9,8 @@ use denote.Ref.{now}
 use Rattle.words.proofs.OnesLaws.{no-set-bits}
 use Rattle.model.specs.Packets.{messageSize}
 use Rattle.release.specs.Owed.{setBits, entries, entryMessage, wordPackets}
-use Rattle.release.proofs.SetBits.{Turn, turn, Remaining, remaining-all, remaining-next}
-use Rattle.release.proofs.Joins.{join-first, join-none}
+use Rattle.words.proofs.SetBits.{Turn, turn, Remaining, remaining-all, remaining-next}
+use Rattle.words.proofs.ListLaws.{join-first, join-none}
 use Rattle.release.proofs.Entries.{entry-length, word-le}
 use borrow.Author.Needs.{needs}
 use Rattle.release.proofs.entry.word_size.Statement.{statement}

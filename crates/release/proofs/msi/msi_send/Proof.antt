@@ -13,9 +13,9 @@ use Rattle.words.proofs.OnesLaws.{no-set-bits}
 use Rattle.model.specs.Packets.{message}
 use Rattle.model.proofs.PacketLaws.{message-length}
 use Rattle.release.specs.Owed.{msiPackets}
-use Rattle.release.proofs.SetBits.{Turn, turn}
-use Rattle.release.proofs.Joins.{join-first, join-none}
-use Rattle.release.proofs.Sending.{Sending, sending-all, sending-fits, sending-next, sending-done}
+use Rattle.words.proofs.SetBits.{Turn, turn}
+use Rattle.words.proofs.ListLaws.{join-first, join-none}
+use Rattle.words.proofs.Sending.{Sending, sending-all, sending-fits, sending-next, sending-done}
 use borrow.Author.Needs.{needs}
 use Rattle.release.proofs.msi.msi_send.Statement.{statement}
 use Rattle.release.proofs.msi.msi_send.Tie as tie

@@ -1,14 +1,14 @@
 -- As many messages of one size as there are set bits. Assumes nothing.
 use mathlib.Core.Path.{sym, ap₂, _∙_}
 use Prim.Native.Nat.{_+_, _*_, _^_, _≤_, _<_}
-use native.Mathlib.Nat.{mul-le-mul}
+use native.Mathlib.Nat.{mul-le-mul, mul-comm}
 use native.Mathlib.Omega.{arith}
 use lib.Count.{ones-le}
 use Rattle.words.proofs.OnesLaws.{length-set-bits}
 use Rattle.model.specs.Packets.{message, messageSize}
 use Rattle.model.proofs.PacketLaws.{message-length, size-le}
 use Rattle.release.specs.Owed.{setBits}
-use Rattle.release.proofs.Joins.{join-each}
+use Rattle.words.proofs.ListLaws.{join-each}
 use borrow.Author.Needs.{needs}
 use Rattle.release.proofs.msi.msi_size.Statement.{statement}
 use Rattle.release.proofs.msi.msi_size.Tie as tie
@@ -32,7 +32,7 @@ returns c requester address base =
     sym
     (join-each (λ v. message requester (a .upper) address (base + v)) (messageSize (a .upper)) (setBits 32 (a .owed))
     (λ v. message-length requester (a .upper) address (base + v))
-    ∙ ap₂ _*_ (length-set-bits 32 (a .owed) (search needs)) (sym (c .message-size .ensures)))
+    ∙ ap₂ _*_ (sym (c .message-size .ensures)) (length-set-bits 32 (a .owed) (search needs)) ∙ mul-comm _ _)
 
 pub msi-size-spec : {M : Type 1} → statement M
 msi-size-spec = tie.close (tie.spec cast-result message-size-requires mul-result returns)

@@ -8,7 +8,7 @@ use lib.ListN.{length, length-append}
 use denote.Ref.{now}
 use Rattle.release.specs.Owed.{entries, owedEntries, owedWord, entryMessage, entryPackets}
 use Rattle.release.proofs.Entries.{owed-le}
-use Rattle.release.proofs.Joins.{join-none}
+use Rattle.words.proofs.ListLaws.{join-none}
 use Rattle.release.proofs.PendingWords.{owedFrom, owed-all, owed-end, packets-split, word-packets, open-backed}
 use Rattle.release.proofs.msix.msix_size.Statement.{statement}
 use Rattle.release.proofs.msix.msix_size.Tie as tie

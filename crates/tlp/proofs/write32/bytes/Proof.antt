@@ -1,6 +1,6 @@
 -- The bytes are those of `message`, word by word. Assumes nothing.
 use Rattle.model.specs.Packets.{message}
-use Rattle.tlp.proofs.WordLaws.{bytesOf-four, bytesHigh-two, bytesHigh-four}
+use Rattle.words.proofs.ByteLaws.{bytesOf-four, bytesHigh-two, bytesHigh-four}
 use borrow.Author.Needs.{needs}
 use Rattle.tlp.proofs.write32.bytes.Statement.{statement}
 use Rattle.tlp.proofs.write32.bytes.Tie as tie

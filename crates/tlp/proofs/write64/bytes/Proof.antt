@@ -2,7 +2,7 @@
 use native.Mathlib.Omega.{arith}
 use borrow.Author.Tests.{ne-eqb}
 use Rattle.model.specs.Packets.{message}
-use Rattle.tlp.proofs.WordLaws.{bytesOf-four, bytesHigh-two, bytesHigh-four}
+use Rattle.words.proofs.ByteLaws.{bytesOf-four, bytesHigh-two, bytesHigh-four}
 use borrow.Author.Needs.{needs}
 use Rattle.tlp.proofs.write64.bytes.Statement.{statement}
 use Rattle.tlp.proofs.write64.bytes.Tie as tie

@@ -1,8 +1,8 @@
 -- Its parts, each by its own function. Assumes nothing.
 use mathlib.Core.Path.{_≡_}
-use Prim.Native.Nat.{ℕ, _-_, _*_, _/_, _%_, _≤_, _<_}
+use Prim.Native.Nat.{ℕ, _-_, _*_, _/_, _%_, _<_}
 use native.Mathlib.Omega.{arith}
-use native.Mathlib.Nat.{div-add-mod'}
+use native.Mathlib.Nat.{div-add-mod', mod-le}
 use lib.ListN.{length}
 use denote.Ref.{now}
 use borrow.Author.Needs.{needs}
@@ -15,9 +15,6 @@ use Rattle.vectors.proofs.message.msi_base.Tie as tie
 -- the low bits are taken off
 low-bits : (x g : ℕ) → x - x % g ≡ x / g * g
 low-bits x g = omega (arith, div-add-mod' x g)
-
-low-le : (x g : ℕ) → x % g ≤ x
-low-le x g = omega (arith, div-add-mod' x g)
 
 small : (x g : ℕ) → x < 65536 → x - x % g < 65536
 small x g h = omega arith
@@ -46,7 +43,7 @@ word32-requires c κs =
 sub-t11 : tie.Need-sub-t11
 sub-t11 c =
     let d = c .before .before .before .before in
-    omega (arith, low-le (d .msi-data .result) (d .before .granted .result))
+    omega (arith, mod-le (d .msi-data .result) (d .before .granted .result))
 
 returns : tie.Need-returns
 unfolding msiBase msiAddress

@@ -1,26 +1,16 @@
 -- The bytes of what is left of the number are still to be stored. Assumes nothing.
 use mathlib.Core.Path.{_≡_, refl, sym}
-use mathlib.Core.List.{[], _∷_}
-use Prim.Native.Nat.{ℕ, suc, _+_, _-_, _/_, _%_, _≤_, _<_}
+use Prim.Native.Nat.{_-_, _%_, _≤_}
 use native.Mathlib.Nat.{sub-zero}
 use native.Mathlib.Omega.{arith}
 use lib.ListN.{length, length-set}
 use Rattle.words.specs.Bytes.{bytesOf}
 use Rattle.words.specs.Writers.{putAt, over}
-use Rattle.words.proofs.ByteLaws.{length-bytesOf}
+use Rattle.words.proofs.ByteLaws.{length-bytesOf, bytesOf-next, bytesOf-end}
 use Rattle.words.proofs.PutLaws.{put-next, put-end}
 use borrow.Author.Needs.{needs}
 use Rattle.words.proofs.put.put_le.Statement.{statement}
 use Rattle.words.proofs.put.put_le.Tie as tie
-
--- the first of the bytes from place i on
-more : (n i x : ℕ) → i < n → bytesOf (n - i) x ≡ x % 256 ∷ bytesOf (n - (i + 1)) (x / 256)
-unfolding bytesOf
-more n i x h = let e : n - i ≡ suc (n - (i + 1)) = omega arith in rw e
-
-done : (n i x : ℕ) → n ≤ i → bytesOf (n - i) x ≡ []
-unfolding bytesOf
-done n i x h = let e : n - i ≡ 0 = omega arith in rw e
 
 abbrev Inv-loop : tie.InvT-loop
 Inv-loop out₀ n value left₀ i₀ out left i = (i ≤ n) × (length out ≡ length out₀) × (putAt i (bytesOf (n - i) left) out ≡ over (bytesOf n value) out₀)
@@ -49,7 +39,7 @@ loop-again c =
     let n = c .before .before .args .n in (
       omega arith,
       simp length-set (v .inv .1),
-      put-next (v .i) (v .left % 256) _ _ (v .out) _ (omega arith) (more n (v .i) (v .left) (omega arith)) (v .inv .2),
+      put-next (v .i) (v .left % 256) _ _ (v .out) _ (omega arith) (bytesOf-next n (v .i) (v .left) (omega arith)) (v .inv .2),
     )
 
 same-length : tie.Need-same-length Inv-loop μ-loop
@@ -61,7 +51,7 @@ returns c =
     let a = c .before .before .args in
     record {
       count = sym (length-bytesOf (a .n) (a .value));
-      bytes = put-end (v .i) _ (v .out) _ (done (a .n) (v .i) (v .left) (omega arith)) (v .inv .2);
+      bytes = put-end (v .i) _ (v .out) _ (bytesOf-end (a .n) (v .i) (v .left) (omega arith)) (v .inv .2);
     }
 
 pub put-le-spec : {M : Type 1} → statement M

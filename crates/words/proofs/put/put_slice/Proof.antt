@@ -1,14 +1,11 @@
 -- The bytes of `src` from place i on are still to be stored. Assumes nothing.
 use mathlib.Core.Path.{_≡_, refl}
-use mathlib.Core.List.{_∷_}
-use Prim.Native.Nat.{_+_, _-_, _≤_, _<_}
-use native.Mathlib.Numerals.{add-one}
+use Prim.Native.Nat.{_-_, _≤_}
 use native.Mathlib.Omega.{arith}
-use lib.ListN.{length, drop, getD, length-set, drop-of-length-le}
-use lib.Seq.{drop-cons}
+use lib.ListN.{length, drop, length-set}
 use denote.Ref.{now}
 use Rattle.words.specs.Writers.{putAt, over}
-use Rattle.words.proofs.PutLaws.{put-next, put-end}
+use Rattle.words.proofs.PutLaws.{copy-next, copy-end}
 use borrow.Author.Needs.{needs}
 use Rattle.words.proofs.put.put_slice.Statement.{statement}
 use Rattle.words.proofs.put.put_slice.Tie as tie
@@ -39,13 +36,7 @@ loop-again : tie.Need-loop-again Inv-loop μ-loop
 loop-again c =
     let v = c .before .before .loop in
     let s = now (c .before .before .before .args .src) in
-    let h : v .i < length s = omega arith in
-    let e : drop (v .i) s ≡ getD s (v .i) 0 ∷ drop (v .i + 1) s = rw add-one (drop-cons s (v .i) 0 h) in (
-      refl,
-      omega arith,
-      simp length-set (v .inv .2),
-      put-next (v .i) (getD s (v .i) 0) _ _ (v .out) _ (omega arith) e (v .inv .3),
-    )
+    (refl, omega arith, simp length-set (v .inv .2), copy-next s (v .i) (v .out) _ (v .inv .3) (omega arith) (omega arith))
 
 same-length : tie.Need-same-length Inv-loop μ-loop
 same-length c = search needs
@@ -54,8 +45,7 @@ returns : tie.Need-returns Inv-loop μ-loop
 returns c =
     let v = c .before .loop in
     let s = now (c .before .before .args .src) in
-    let h : length s ≤ v .i = omega arith in
-    record { count = refl; bytes = put-end (v .i) _ (v .out) _ (drop-of-length-le s h) (v .inv .3) }
+    record { count = refl; bytes = copy-end s (v .i) (v .out) _ (v .inv .3) (omega arith) }
 
 pub put-slice-spec : {M : Type 1} → statement M
 put-slice-spec =

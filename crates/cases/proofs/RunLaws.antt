@@ -10,6 +10,7 @@ use Rattle.model.specs.World.{World, worldOf, endpointOf, zeroFunction}
 use Rattle.model.specs.Calls.{Call, event, outputOf, step, start, startOf, startGiven, operate}
 use Rattle.model.specs.Calls as Calls
 use Rattle.model.specs.Play.{Expect, fresh, right, played, lent, begun}
+use Rattle.model.proofs.PlayLaws.{play-call, play-start}
 use Rattle.card.specs.declared.outcome.Outcome.{Outcome}
 use Rattle.card.specs.Outcomes.{after}
 use Rattle.cases.specs.declared.run.Run.{Run}
@@ -24,11 +25,10 @@ withBuffers run table pending = record { card = run .card; vectors = run .vector
 module _ (run : Run) (x : Expect) (o : Outcome) (t p out : List ℕ) (e : after o t p out ≡ step (seen run .world) (x .call)) where
   pub plays : (table pending shown fresh : List ℕ) → take (16 * run .vectors) table ≡ t → take (8 * ((run .vectors + 63) / 64)) pending ≡ p → shown ≡ out → fresh ≡ outputOf (x .call)
       → (good : Bool) → good ≡ right (after o [] [] shown) (x .answer) (x .bytes) fresh → (r : Run) → r ≡ judged (withBuffers run table pending) (o .card) good → seen r ≡ played (seen run) x
-  unfolding played right
   plays table pending shown fresh et ep es ef good eg r er =
       ap seen (er ∙ ap (judged (withBuffers run table pending) (o .card)) eg)
       ∙ (λ i. record { world = worldOf (o .card) (et i) (ep i); good = run .good && right (after o [] [] (es i)) (x .answer) (x .bytes) (ef i) })
-      ∙ (λ i. record { world = e i .world; good = run .good && right (e i) (x .answer) (x .bytes) (outputOf (x .call)) })
+      ∙ play-call (seen run) x (worldOf (o .card) [] []) (after o t p out) e
 
 -- the same for n bytes of the table and m of the pending array
 module _ (run : Run) (c : Call) (o : Outcome) (n m : ℕ) (en : n ≡ min (16 * run .vectors) (length (run .table))) (em : m ≡ min (8 * ((run .vectors + 63) / 64)) (length (run .pending))) (t p out : List ℕ) (e : after o t p out ≡ step (worldOf (run .card) (take n (run .table)) (take m (run .pending))) c) where
@@ -49,7 +49,6 @@ module _ (run : Run) (c : Call) (o : Outcome) (n m : ℕ) (en : n ≡ min (16 * 
 
 module _ (config sizes : List ℕ) (events vectors : ℕ) (answer : Answer) (h : vectors ≤ 10) (o : Outcome) (n m : ℕ) (en : n ≡ min (16 * vectors) (length (fresh 160))) (em : m ≡ min (8 * ((vectors + 63) / 64)) (length (fresh 8))) (t p : List ℕ) (e : after o t p [] ≡ startOf (endpointOf zeroFunction (take n (fresh 160)) (take m (fresh 8))) (startGiven (endpointOf zeroFunction (take n (fresh 160)) (take m (fresh 8))) config sizes events 0x100)) where
   begins-with : after o t p [] ≡ operate (lent vectors) (start config sizes events 0x100)
-  unfolding lent
   begins-with =
       e
       ∙ ap₂ (λ (a b : List ℕ). startOf (endpointOf zeroFunction a b) (startGiven (endpointOf zeroFunction a b) config sizes events 0x100))
@@ -58,10 +57,9 @@ module _ (config sizes : List ℕ) (events vectors : ℕ) (answer : Answer) (h :
   pub begins : (table pending : List ℕ) → take (16 * vectors) table ≡ t → take (8 * ((vectors + 63) / 64)) pending ≡ p
       → (r : Run) → r ≡ judged (record { card = o .card; vectors = vectors; table = table; pending = pending; good = true }) (o .card) (right (after o [] [] []) answer [] [])
       → seen r ≡ begun config sizes events vectors answer
-  unfolding begun right
   begins table pending et ep r er =
       ap seen er ∙ (λ i. record { world = worldOf (o .card) (et i) (ep i); good = right (after o [] [] []) answer [] [] })
-      ∙ (λ i. record { world = begins-with i .world; good = right (begins-with i) answer [] [] })
+      ∙ play-start config sizes events vectors answer (worldOf (o .card) [] []) (after o t p []) begins-with
 
 -- an event over an output with equal contents
 pub over-equal : (w : World) (x : Calls.Outcome) (number : ℕ) (a b : List ℕ) → x ≡ step w (event number a) → a ≡ b → x ≡ step w (event number b)

@@ -1,19 +1,19 @@
 -- A loop over the set bits of a number: w & (w - 1) is w without its lowest set bit. Assumes nothing.
 use mathlib.Core.Path.{_≡_, sym, ap, _∙_}
 use mathlib.Core.Bool.{true, not, _&&_}
-use lib.Dec.{eqb}
 use mathlib.Core.List.{_∷_}
 use Prim.Native.Nat.{ℕ, zero, suc, _-_, _*_, _/_, _%_, _^_, _≤_, _<_}
 use native.Mathlib.Nat.{pow-suc}
 use native.Mathlib.Omega.{arith}
 use lib.Bits.{bitAnd, and-step, and-self}
+use lib.Dec.{eqb}
 use borrow.Author.Tests.{eqb-true, eqb-false}
+use Rattle.words.specs.Lists.{count, keep}
 use Rattle.words.specs.Bits.{bit, clearBit}
 use Rattle.words.specs.Lowest.{Lowest}
 use Rattle.words.proofs.BitLaws.{bit-zero, bit-suc, bit-cleared}
 use Rattle.words.proofs.BoolLaws.{both}
 use Rattle.words.proofs.LowestLaws.{lowest-within, lowest-rest, clear-set, clear-less, power-le}
-use Rattle.release.specs.Owed.{setBits}
 
 half : (w v : ℕ) → Lowest w (suc v) → Lowest (w / 2) v
 half w v l = record { set = sym (bit-suc w v) ∙ l .set; first = λ i h. sym (bit-suc w i) ∙ l .first (suc i) (omega arith) }
@@ -39,7 +39,7 @@ pub record Turn (k w v : ℕ) : Type 0 where
   pub set : bit w v ≡ true
   pub next : bitAnd w (w - 1) ≡ clearBit w v
   pub less : bitAnd w (w - 1) < w
-  pub rest : setBits k w ≡ v ∷ setBits k (bitAnd w (w - 1))
+  pub rest : keep (bit w) (count 0 k) ≡ v ∷ keep (bit (bitAnd w (w - 1))) (count 0 k)
 
 pub turn : (k w v : ℕ) → w < 2 ^ k → Lowest w v → Turn k w v
 turn k w v u l =
@@ -49,7 +49,7 @@ turn k w v u l =
       set = l .set;
       next = e;
       less = rw e (clear-less w v (l .set));
-      rest = lowest-rest k w v u l ∙ ap (λ (x : ℕ). v ∷ setBits k x) (sym e);
+      rest = lowest-rest k w v u l ∙ ap (λ (x : ℕ). v ∷ keep (bit x) (count 0 k)) (sym e);
     }
 
 -- the set bits that are left are some of those of w
