@@ -167,7 +167,7 @@ uint8_t musgarento_event(uint8_t *card, size_t card_len,
    6. */
 uint8_t musgarento_line(uint8_t *card, size_t card_len,
                         const uint8_t *table, size_t table_len,
-                        uint8_t *pending, size_t pending_len,
+                        const uint8_t *pending, size_t pending_len,
                         uint8_t level,
                         uint8_t *out, size_t out_len, size_t *count);
 

@@ -1,82 +1,69 @@
--- The call that writes a BAR, where it is not refused. Assumes nothing.
+-- A write of a BAR of a sound card, where it is not refused: the pending array, or the table. Assumes nothing.
 use mathlib.Core.Path.{_≡_, refl, sym, ap, _∙_}
-use mathlib.Core.Bool.{Bool, true, false, not}
+use mathlib.Core.Bool.{Bool, true, false}
 use mathlib.Core.List.{List, []}
 use Prim.Native.Nat.{ℕ, _+_, _-_, _%_, _≤_, _<_}
 use native.Mathlib.Omega.{arith}
 use lib.ListN.{length}
-use borrow.Author.Tests.{not-true, not-false}
 use Rattle.words.specs.Bytes.{bytesOf}
 use Rattle.model.specs.declared.Answer.the-variants.{Done}
 use Rattle.model.specs.declared.Card.{Card}
+use Rattle.model.specs.declared.Profile.{Profile}
 use Rattle.model.specs.declared.Shape.{Shape}
-use Rattle.model.specs.Shape.{shapeOf, tableBytes}
-use Rattle.model.specs.World.{Endpoint, registers, worldOf}
+use Rattle.model.specs.World.{World, Endpoint, registers, worldOf}
 use Rattle.model.specs.Registers.{inTable}
 use Rattle.model.specs.Vectors.{commandBit}
-use Rattle.model.specs.Sound.{sound, shape}
-use Rattle.model.specs.Calls as Calls
-use Rattle.model.specs.Calls.{barWrite, badBar, step, accepted}
-use Rattle.model.proofs.AccessCalls.{bar-writes}
-use Rattle.model.proofs.BarLaws.{in-table}
-use Rattle.model.proofs.SettleCalls.{Settles, table-settles, pending-settles, nothing-sent, settled-same}
-use Rattle.registers.proofs.AccessLaws.{aligned, bar-access}
+use Rattle.model.specs.Release.{settled, settleBytes}
+use Rattle.model.specs.Sound.{shape}
+use Rattle.model.specs.Calls.{barWrite, badBar, performed, accepted, settleOf}
+use Rattle.model.proofs.Calls.AccessCalls.{bar-writes}
+use Rattle.model.proofs.Registers.BarLaws.{in-table}
+use Rattle.model.proofs.Calls.CallLaws.{room-fits}
+use Rattle.model.proofs.Calls.SettleCalls.{Settles, table-settles, pending-settles, nothing-sent, settled-same}
 use Rattle.card.specs.declared.outcome.Outcome.{Outcome}
-use Rattle.card.specs.Outcomes.{acceptedWith, after, settleOf}
+use Rattle.card.specs.Outcomes.{acceptedWith, after}
+use Rattle.card.specs.Running.{Running}
+use Rattle.card.proofs.CallsFor.{core-settles}
 use Rattle.bar_access.specs.Entries.{tableWritten}
-use Rattle.card.proofs.SoundFor.{is-sound-now}
-use Rattle.bar_access.proofs.BarFor.{bar-fit, bar-passes}
-use Rattle.card.proofs.SettleFor.{settle-room}
-use Rattle.card.proofs.CallsFor as CallsFor
+use Rattle.bar_access.proofs.BarFor.{bar-asks, bar-passes}
 
--- nothing follows where nothing changes
-settle-none : (card : Card) (t p out : List ℕ) → sound (worldOf card t p) ≡ true
-    → settleOf card (shapeOf (card .function .config)) (worldOf card t p .endpoint) (worldOf card t p) out ≡ accepted (worldOf card t p) Done [] out
-settle-none card t p out k =
-    settle-room card (shapeOf (card .function .config)) (worldOf card t p .endpoint) (worldOf card t p) out (rw (nothing-sent (worldOf card t p) k) (omega arith))
-    ∙ (λ i. accepted (settled-same (worldOf card t p) k i) Done (nothing-sent (worldOf card t p) k i) out)
+module _ (card : Card) (t p : List ℕ) (k : Profile) (r : Running card t p k) where
+  abbrev w : World
+  w = worldOf card t p
 
--- ---- tests k of the card, whose shape is s, g of the access, m of Command bit 1, i of the place
+  -- nothing follows where nothing changes
+  settle-none : (out : List ℕ) → settleOf w (k .shape) (w .endpoint) out ≡ accepted w Done [] out
+  settle-none out =
+      let s : Shape = shape (w .endpoint) in
+      ap (λ (x : Shape). settleOf w x (w .endpoint) out) (r .shaped)
+      ∙ room-fits w (settled s (w .endpoint)) Done (settleBytes s (w .wire) (w .endpoint)) out (rw (nothing-sent w (r .isSound)) (omega arith))
+      ∙ (λ i. accepted (settled-same w (r .isSound) i) Done (nothing-sent w (r .isSound) i) out)
 
-module _ (card : Card) (t p : List ℕ) (k : Bool) (e : k ≡ sound (worldOf card t p)) (h : not k ≡ false) (s : Shape) (z : s ≡ shape (worldOf card t p .endpoint))
-    (b o n : ℕ) (g : Bool) (d : g ≡ badBar s b o n) (f : g ≡ false) (i : Bool) (q : i ≡ inTable s b o) where
-  inside : not i ≡ false → (s .msix .table .at ≤ o) × (o < s .msix .table .at + tableBytes s)
-  inside j = in-table s b o (sym q ∙ not-false i j)
+  -- row 4 does not apply
+  module _ (b o n : ℕ) (e : badBar (k .shape) b o n ≡ false) where
+    pub table-asks : inTable (k .shape) b o ≡ true
+        → Running card t p k × ((o - k .shape .msix .table .at) % 8 + n ≤ 8) × (o - k .shape .msix .table .at < length t)
+    table-asks i =
+        let l = in-table (k .shape) b o i in
+        let a = bar-asks card t p k r b o n e in
+        (r, omega (arith, l .0, a .1 .table, a .2), omega (arith, l, a .0 .table))
 
-  pub bar-write-place : not i ≡ false → s .msix .table .at ≤ o
-  bar-write-place j = inside j .0
+    -- nor row 5
+    module _ (m : commandBit (registers (w .endpoint)) 1 ≡ true) (x : ℕ) (out : List ℕ) where
+      place : (z : Bool) → inTable (k .shape) b o ≡ z → inTable (shape (w .endpoint)) b o ≡ z
+      place z i = ap (λ (s : Shape). inTable s b o) (sym (r .shaped)) ∙ i
 
-  pub bar-write-asks : not i ≡ false
-      → (sound (worldOf card t p) ≡ true) × (s ≡ shapeOf (card .function .config)) × ((o - s .msix .table .at) % 8 + n ≤ 8) × (o - s .msix .table .at < length t)
-  bar-write-asks j =
-      let l = inside j in
-      let a : s .msix .table .at % 8 ≡ 0 = rw z (aligned (card .function .config) .table) in
-      let r = bar-access s b o n (sym d ∙ f) .0 in
-      let c = bar-fit card t p k e h s z .table in
-      (is-sound-now (worldOf card t p) k e h, z, omega arith, omega arith)
+      settles : (u v : Endpoint) → Settles w (barWrite b o n x out) v → u ≡ v → settleOf w (k .shape) u out ≡ performed w (barWrite b o n x out)
+      settles u v to eu =
+          core-settles w (barWrite b o n x out) u v to (k .shape) (r .shaped) eu
+          (bar-passes card t p k r b o n e m (barWrite b o n x out) (bar-writes x out))
 
-  module _ (m : Bool) (v : m ≡ commandBit (registers (worldOf card t p .endpoint)) 1) (l : not m ≡ false) (x : ℕ) (out : List ℕ) where
-    place : (x : Bool) → i ≡ x → inTable (shape (worldOf card t p .endpoint)) b o ≡ x
-    place x j = ap (λ (s : Shape). inTable s b o) (sym z) ∙ sym q ∙ j
+      pub pending-written : (y : Outcome) → inTable (k .shape) b o ≡ false → y ≡ acceptedWith card Done 0 → after y t p out ≡ performed w (barWrite b o n x out)
+      pending-written y i ey =
+          ap (λ (z : Outcome). after z t p out) ey ∙ sym (settle-none out)
+          ∙ settles (w .endpoint) (w .endpoint) (pending-settles w b o n x out (place false i)) refl
 
-    -- the function becomes u
-    settles : (u : Endpoint) → Settles (worldOf card t p) (barWrite b o n x out) u
-        → settleOf card (shapeOf (card .function .config)) u (worldOf card t p) out ≡ step (worldOf card t p) (barWrite b o n x out)
-    settles u to =
-        CallsFor.settles card t p (barWrite b o n x out) u u to (shapeOf (card .function .config)) refl refl (is-sound-now (worldOf card t p) k e h)
-        (bar-passes card t p k e h s z b o n g d f m v l (barWrite b o n x out) (bar-writes x out))
-
-    -- the pending array
-    pub bar-write-none : (r : Outcome) → not i ≡ true → r ≡ acceptedWith card Done 0 → after r t p out ≡ step (worldOf card t p) (barWrite b o n x out)
-    bar-write-none r j a =
-        (λ y. after (a y) t p out) ∙ sym (settle-none card t p out (is-sound-now (worldOf card t p) k e h))
-        ∙ settles (worldOf card t p .endpoint) (pending-settles (worldOf card t p) b o n x out (place false (not-true i j)))
-
-    -- the table
-    pub bar-write-table : (r : Calls.Outcome) → not i ≡ false
-        → r ≡ settleOf card s (tableWritten (worldOf card t p) (o - s .msix .table .at) (bytesOf n x)) (worldOf card t p) out
-        → r ≡ step (worldOf card t p) (barWrite b o n x out)
-    bar-write-table r j a =
-        a
-        ∙ ap (λ (s : Shape). settleOf card s (tableWritten (worldOf card t p) (o - s .msix .table .at) (bytesOf n x)) (worldOf card t p) out) z
-        ∙ settles _ (table-settles (worldOf card t p) b o n x out (place true (not-false i j)))
+      pub table-written : inTable (k .shape) b o ≡ true
+          → settleOf w (k .shape) (tableWritten w (o - k .shape .msix .table .at) (bytesOf n x)) out ≡ performed w (barWrite b o n x out)
+      table-written i =
+          settles _ _ (table-settles w b o n x out (place true i)) (ap (λ (s : Shape). tableWritten w (o - s .msix .table .at) (bytesOf n x)) (r .shaped))

@@ -1,25 +1,25 @@
 -- One entry of the MSI-X table by itself, and a write that reaches it. Assumes nothing.
 use mathlib.Core.Path.{_≡_, sym, ap, _∙_}
-use mathlib.Core.Bool.{Bool, true, false, not, _&&_, and-false, and-true}
+use mathlib.Core.Bool.{Bool, true, false, _&&_, and-false, and-true}
 use mathlib.Core.List.{List}
 use Prim.Native.Nat.{ℕ, _+_, _-_, _*_, _/_, _%_, _≤_, _<_}
 use native.Mathlib.Omega.{arith}
 use lib.ListN.{length, take, drop, length-drop, List·getD-append}
 use lib.Seq.{length-take-le, getD-take, getD-drop}
-use borrow.Author.Tests.{not-true, not-false}
 use Rattle.words.specs.Lists.{within}
 use Rattle.words.specs.Bytes.{byte, bytesOf}
 use Rattle.words.specs.Writers.{over}
 use Rattle.words.proofs.ByteLaws.{length-bytesOf}
 use Rattle.words.proofs.ListLaws.{within-shift}
 use Rattle.model.specs.declared.Mode.the-variants.{Msix}
-use Rattle.model.specs.declared.Shape.{Shape}
+use Rattle.model.specs.declared.Profile.{Profile}
 use Rattle.model.specs.World.{Endpoint, withWaiting}
 use Rattle.model.specs.Registers.{entryWritable, written}
-use Rattle.model.specs.Vectors.{masked, isOpen, waits}
-use Rattle.model.proofs.WriteLaws.{byte-written}
-use Rattle.model.proofs.EntryLaws.{entry-writable, entry-masked}
-use Rattle.vectors.specs.Given.{regs}
+use Rattle.model.specs.Vectors.{masked, sameMode, inForce, isOpen, waits}
+use Rattle.model.proofs.Registers.WriteLaws.{byte-written}
+use Rattle.model.proofs.Registers.EntryLaws.{entry-writable, entry-masked}
+use Rattle.model.proofs.Vectors.SweepLaws.{in-force}
+use Rattle.vectors.specs.Given.{regs, InForce, Profiled}
 use Rattle.vectors.specs.Enabled.{msixEnabled}
 use Rattle.vectors.proofs.MsixLaws.{when-masked, when-clear}
 use Rattle.bar_access.specs.Entries.{IsEntry}
@@ -57,20 +57,34 @@ entry-copied t o e e′ at n x p q h l i j =
     let same : IsEntry e t (at / 16) = rw (p, b, a) (copied t o (at / 16) h) in
     ap (λ (z : List ℕ). byte z i) q ∙ entry-written at n t e x same l h i j
 
--- ---- the vector of an entry
+-- ---- vector v is open and waits, by each way to find it: k is what the configuration c says
 
-module _ (e t : List ℕ) (v : ℕ) (same : IsEntry e t v) where
-  -- open and waiting, by each way to find it
-  module _ (s : Shape) (c p : List ℕ) (u : Endpoint) (b : Bool) (d : b ≡ waits Msix (withWaiting u 0 p) v) where
-    pub owed-idle : not b ≡ true → false ≡ (isOpen Msix s (regs c t) v && waits Msix (withWaiting u 0 p) v)
-    owed-idle h = rw (← d, not-true b h) (sym (and-false (isOpen Msix s (regs c t) v)))
+module _ (c : List ℕ) (k : Profile) (f : Profiled c k) where
+  pub owed-force : sameMode Msix (k .mode) ≡ true → InForce Msix (k .shape) c
+  owed-force h t = f .mode t ∙ in-force Msix (k .mode) h
 
-    module _ (m : Bool) (f : m ≡ masked Msix s (regs c e) 0) where
-      pub owed-masked : m ≡ true → false ≡ (isOpen Msix s (regs c t) v && waits Msix (withWaiting u 0 p) v)
-      owed-masked h = ap (λ (x : Bool). x && waits Msix (withWaiting u 0 p) v) (when-masked s (regs c t) v (sym (entry-masked e t v same s c) ∙ sym f ∙ h))
+  -- a table t, a pending array p and a function u that they belong to
+  module _ (t p : List ℕ) (u : Endpoint) (v : ℕ) where
+    abbrev isOwed : Bool
+    isOwed = isOpen Msix (k .shape) (regs c t) v && waits Msix (withWaiting u 0 p) v
 
-      pub owed-open : (r : Bool) → not b ≡ false → m ≡ false → v < s .msix .vectors → r ≡ msixEnabled s (regs c t)
-          → r ≡ (isOpen Msix s (regs c t) v && waits Msix (withWaiting u 0 p) v)
-      owed-open r h g l q =
-          q ∙ when-clear s (regs c t) v l (sym (entry-masked e t v same s c) ∙ sym f ∙ g)
-          ∙ sym (ap (λ (x : Bool). isOpen Msix s (regs c t) v && x) (sym d ∙ not-false b h) ∙ and-true (isOpen Msix s (regs c t) v))
+    -- another mechanism is in force
+    pub owed-other : sameMode Msix (k .mode) ≡ false → false ≡ isOwed
+    unfolding isOpen inForce
+    owed-other h = rw (f .mode t, h)
+
+    pub owed-idle : waits Msix (withWaiting u 0 p) v ≡ false → false ≡ isOwed
+    owed-idle h = rw h (sym (and-false (isOpen Msix (k .shape) (regs c t) v)))
+
+    -- e holds the entry of v
+    module _ (e : List ℕ) (same : IsEntry e t v) where
+      pub owed-masked : masked Msix (k .shape) (regs c e) 0 ≡ true → false ≡ isOwed
+      owed-masked h =
+          ap (λ (x : Bool). x && waits Msix (withWaiting u 0 p) v)
+          (when-masked (k .shape) (regs c t) v (sym (entry-masked e t v same (k .shape) c) ∙ h))
+
+      pub owed-open : waits Msix (withWaiting u 0 p) v ≡ true → masked Msix (k .shape) (regs c e) 0 ≡ false → v < k .shape .msix .vectors
+          → msixEnabled (k .shape) (regs c t) ≡ isOwed
+      owed-open h g l =
+          when-clear (k .shape) (regs c t) v l (sym (entry-masked e t v same (k .shape) c) ∙ g)
+          ∙ sym (ap (λ (x : Bool). isOpen Msix (k .shape) (regs c t) v && x) h ∙ and-true (isOpen Msix (k .shape) (regs c t) v))

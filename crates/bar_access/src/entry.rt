@@ -3,18 +3,18 @@ ghost use mathlib.Core.Path.{_≡_};
 ghost use mathlib.Core.Bool.{_&&_};
 ghost use mathlib.Core.List.{List};
 ghost use Prim.Native.Nat.{ℕ, _+_, _*_, _/_, _%_, _<_, _≤_};
-ghost use lib.ListN.{length, set};
-ghost use Rattle.words.specs.Bits.{clearBit};
-ghost use Rattle.words.specs.Bytes.{byte, bytesOf};
+ghost use lib.ListN.{length};
+ghost use Rattle.words.specs.Bytes.{bytesOf};
 ghost use Rattle.model.specs.World.{Endpoint, withWaiting};
 ghost use Rattle.model.specs.Registers.{entryWritable, written};
 ghost use Rattle.model.specs.Vectors.{isOpen, waits};
-ghost use Rattle.vectors.specs.Given.{regs, FitShape};
+ghost use Rattle.vectors.specs.Given.{regs, Profiled};
 ghost use Rattle.bar_access.specs.Entries.{IsEntry};
 use model::Mode;
-use model::Shape;
+use model::Profile;
 use model::Vector;
 use registers::table::table_written;
+use vectors::mode::is_msix;
 use vectors::msix::entry_masked;
 use vectors::msix::msix_enabled;
 use vectors::waiting::waits;
@@ -31,27 +31,21 @@ pub fn entry_after(table: &[u8], at: usize, n: usize, value: u64) -> [u8; 16]
     entry
 }
 
-// Vector v, whose table entry is given, is open and waits.
-pub fn is_owed(config: &[u8; 256], s: Shape, entry: &[u8], pending: &[u8], v: Vector) -> bool
-    requires { ⌜ FitShape s × (v .0 < s .msix .vectors) × (length (now entry) ≡ 16) ⌝ }
-    ensures { λ r. ⌜ ((u : Endpoint) (t : List ℕ) → IsEntry (now (entry .entry)) t (v .0) → r ≡ (isOpen Mode.Msix s (regs (now (config .entry)) t) (v .0) && waits Mode.Msix (withWaiting u 0 (now (pending .entry))) (v .0))) ⌝ }
+// Vector v, whose table entry is given, is open and waits. The mechanism in force is the one of the profile.
+pub fn is_owed(config: &[u8; 256], k: Profile, entry: &[u8], pending: &[u8], v: Vector) -> bool
+    requires { ⌜ Profiled (now config) k × (v .0 < k .shape .msix .vectors) × (length (now entry) ≡ 16) ⌝ }
+    ensures { λ r. ⌜ ((u : Endpoint) (t : List ℕ) → IsEntry (now (entry .entry)) t (v .0)
+        → r ≡ (isOpen Mode.Msix (k .shape) (regs (now (config .entry)) t) (v .0) && waits Mode.Msix (withWaiting u 0 (now (pending .entry))) (v .0))) ⌝ }
 {
+    let mode = k.mode;
+    if !is_msix(mode) {
+        return false;
+    }
     if !waits(Mode::Msix, 0, pending, v) {
         return false;
     }
     if entry_masked(entry, 0) {
         return false;
     }
-    msix_enabled(config, s)
-}
-
-// The pending bit of vector v cleared.
-pub fn clear_pending(pending: &mut [u8], v: Vector)
-    requires { ⌜ v .0 / 8 < length (now pending) ⌝ }
-    ensures { λ r. ⌜ now (pending .exit) ≡ set (now (pending .entry)) (v .0 / 8) (clearBit (byte (now (pending .entry)) (v .0 / 8)) (v .0 % 8)) ⌝ }
-{
-    let n = v.0 as usize;
-    let i = n / 8;
-    let one: u8 = 1 << (n % 8);
-    pending[i] = !one & pending[i];
+    msix_enabled(config, k.shape)
 }

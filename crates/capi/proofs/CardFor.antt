@@ -13,8 +13,7 @@ use Rattle.words.proofs.BoolLaws.{both}
 use Rattle.words.proofs.ListLaws.{same-true}
 use Rattle.model.specs.declared.Card.{Card}
 use Rattle.model.specs.World.{worldOf}
-use Rattle.model.specs.Image.{cardBytes}
-use Rattle.image.specs.Held.{cardIn}
+use Rattle.model.specs.Image.{cardBytes, cardIn}
 use Rattle.image.proofs.CardBack.{card-same}
 use Rattle.image.proofs.CardLaws.{card-length}
 use Rattle.words.proofs.PutLaws.{over-all}

@@ -8,11 +8,10 @@ use Rattle.words.specs.Bytes.{Bytes}
 use Rattle.model.specs.declared.Card.{Card}
 use Rattle.model.specs.Answers.{refusalOf, valueOf, eventCode}
 use Rattle.model.specs.World.{worldOf, cardOf}
-use Rattle.model.specs.Image.{cardBytes}
+use Rattle.model.specs.Image.{cardBytes, cardIn}
 use Rattle.model.specs.Calls as Calls
 use Rattle.model.specs.Calls.{Operation, operate}
-use Rattle.model.proofs.OutcomeLaws.{Reads, Plain, Bare}
-use Rattle.image.specs.Held.{cardIn}
+use Rattle.model.proofs.Calls.OutcomeLaws.{Reads, Plain, Bare}
 use Rattle.image.proofs.CardLaws.{card-alone}
 use Rattle.card.specs.declared.outcome.Outcome.{Outcome}
 use Rattle.card.specs.Outcomes.{after}
@@ -27,7 +26,8 @@ unfolding crossed
 stopped card t p out o l e = rw (e, l)
 
 -- the operation o gave the outcome r, with the later buffers t′, p′ and out′
-module _ (card t p : List ℕ) (o : Operation) (x : wellFormed card o ≡ true) (r : Outcome) (t′ p′ out′ : List ℕ) (q : after r t′ p′ out′ ≡ operate (worldOf (cardIn card) t p) o) where
+module _ (card t p : List ℕ) (o : Operation) (x : wellFormed card o ≡ true) (r : Outcome) (t′ p′ out′ : List ℕ)
+    (q : after r t′ p′ out′ ≡ operate (worldOf (cardIn card) t p) o) where
   pub through : (card′ : List ℕ) (n v a k : ℕ) → card′ ≡ cardBytes (worldOf (r .card) [] []) → n ≡ refusalOf (r .answer) → v ≡ valueOf (r .answer)
       → a ≡ eventCode (r .answer) → k ≡ r .count → handed n card′ t′ p′ out′ v a k ≡ crossed card t p o
   unfolding crossed
@@ -44,7 +44,8 @@ module _ (card t p : List ℕ) (o : Operation) (x : wellFormed card o ≡ isCard
     is-card : isCard card ≡ true
     is-card = sym e ∙ not-false b h
 
-    module _ (held : Card) (d : held ≡ cardIn card) (r : Outcome) (t′ p′ out′ : List ℕ) (q : after r t′ p′ out′ ≡ operate (worldOf held t p) o) (n : Numbers) (m : n ≡ numbersOf (r .answer)) where
+    module _ (held : Card) (d : held ≡ cardIn card) (r : Outcome) (t′ p′ out′ : List ℕ) (q : after r t′ p′ out′ ≡ operate (worldOf held t p) o)
+        (n : Numbers) (m : n ≡ numbersOf (r .answer)) where
       outcome : after r t′ p′ out′ ≡ operate (worldOf (cardIn card) t p) o
       outcome = q ∙ ap (λ (c : Card). operate (worldOf c t p) o) d
 

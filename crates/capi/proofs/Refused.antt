@@ -8,15 +8,15 @@ use Rattle.words.specs.Bytes.{Bytes}
 use Rattle.words.proofs.BoolLaws.{by-test}
 use Rattle.model.specs.Answers.{refusalOf, isAccepted}
 use Rattle.model.specs.World.{World, Endpoint, worldOf}
-use Rattle.model.specs.Image.{cardBytes}
+use Rattle.model.specs.Image.{cardBytes, cardIn}
 use Rattle.model.specs.Start.{Given}
 use Rattle.model.specs.Claims.{Unchanged}
 use Rattle.model.specs.Calls.{Call, Outcome, Operation, call, start, restore, outputOf, startOf, startGiven, zeroWorld, operate}
 use Rattle.model.proofs.Refusals as Refusals
-use Rattle.model.proofs.Refusals.{refused-unchanged, not-accepted}
-use Rattle.model.proofs.AnswerLaws.{refused-code}
-use Rattle.model.proofs.ImageLaws.{zero-bytes}
-use Rattle.image.specs.Held.{cardIn}
+use Rattle.model.proofs.Refusals.{refused-unchanged}
+use Rattle.model.proofs.Calls.AnswerLaws.{not-accepted}
+use Rattle.model.proofs.Calls.AnswerLaws.{refused-code}
+use Rattle.model.proofs.Image.ImageLaws.{zero-bytes}
 use Rattle.capi.specs.Crossing.{Crossed, isCard, handed, back, wellFormed, lent, crossed}
 use Rattle.capi.proofs.CardFor.{card-kept}
 use Rattle.capi.proofs.CrossingFor.{stopped}

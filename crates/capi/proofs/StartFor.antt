@@ -6,14 +6,13 @@ use Prim.Native.Nat.{ℕ}
 use lib.ListN.{length}
 use borrow.Author.Tests.{eq-eqb, ne-eqb}
 use Rattle.model.specs.Answers.{valueOf, eventCode}
-use Rattle.model.specs.Image.{cardBytes}
+use Rattle.model.specs.Image.{cardBytes, cardIn}
 use Rattle.model.specs.Start.{given}
 use Rattle.model.specs.World.{worldOf, endpointOf, zeroFunction}
 use Rattle.model.specs.Calls as Calls
 use Rattle.model.specs.Calls.{Operation, start, startOf, operate}
-use Rattle.model.proofs.StartCalls.{start-buffers}
-use Rattle.model.proofs.OutcomeLaws.{start-bare}
-use Rattle.image.specs.Held.{cardIn}
+use Rattle.model.proofs.Calls.StartCalls.{start-buffers}
+use Rattle.model.proofs.Calls.OutcomeLaws.{start-bare}
 use Rattle.card.specs.declared.outcome.Outcome.{Outcome}
 use Rattle.card.specs.Outcomes.{after}
 use Rattle.capi.specs.declared.bytes.Numbers.{Numbers}

@@ -6,10 +6,9 @@ use lib.Dec.{ltb, eqb}
 use lib.ListN.{length}
 use Rattle.words.specs.Bytes.{byte}
 use Rattle.model.specs.World.{worldOf}
-use Rattle.model.specs.Image.{cardBytes}
+use Rattle.model.specs.Image.{cardBytes, cardIn}
 use Rattle.model.specs.Answers.{refusalOf, valueOf, eventCode}
 use Rattle.model.specs.Calls.{Outcome, Operation, call, start, restore, outputOf, operate}
-use Rattle.image.specs.Held.{cardIn}
 
 -- what a function hands back: the number that it returns, the later contents of each buffer, and the numbers that it sets
 pub record Crossed : Type 0 where

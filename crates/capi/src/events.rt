@@ -18,7 +18,8 @@ pub extern "C" fn musgarento_event(
     answer: &mut u8,
     count: &mut usize,
 ) -> u8
-    ensures { λ r. ⌜ handed r (now (card .exit)) (now (table .entry)) (now (pending .exit)) (now (out .exit)) 0 (now (answer .exit)) (now (count .exit)) ≡ crossed (now (card .entry)) (now (table .entry)) (now (pending .entry)) (call (event number (now (out .entry)))) ⌝ }
+    ensures { λ r. ⌜ handed r (now (card .exit)) (now (table .entry)) (now (pending .exit)) (now (out .exit)) 0 (now (answer .exit)) (now (count .exit))
+        ≡ crossed (now (card .entry)) (now (table .entry)) (now (pending .entry)) (call (event number (now (out .entry)))) ⌝ }
 {
     *answer = 0;
     *count = 0;
@@ -38,12 +39,13 @@ pub extern "C" fn musgarento_event(
 pub extern "C" fn musgarento_line(
     card: &mut [u8],
     table: &[u8],
-    pending: &mut [u8],
+    pending: &[u8],
     level: u8,
     out: &mut [u8],
     count: &mut usize,
 ) -> u8
-    ensures { λ r. ⌜ handed r (now (card .exit)) (now (table .entry)) (now (pending .exit)) (now (out .exit)) 0 0 (now (count .exit)) ≡ crossed (now (card .entry)) (now (table .entry)) (now (pending .entry)) (call (line (not (eqb level 0)) (now (out .entry)))) ⌝ }
+    ensures { λ r. ⌜ handed r (now (card .exit)) (now (table .entry)) (now (pending .entry)) (now (out .exit)) 0 0 (now (count .exit))
+        ≡ crossed (now (card .entry)) (now (table .entry)) (now (pending .entry)) (call (line (not (eqb level 0)) (now (out .entry)))) ⌝ }
 {
     *count = 0;
     if !is_card(card) {

@@ -16,7 +16,8 @@ pub extern "C" fn musgarento_save(
     out: &mut [u8],
     count: &mut usize,
 ) -> u8
-    ensures { λ r. ⌜ handed r (now (card .entry)) (now (table .entry)) (now (pending .entry)) (now (out .exit)) 0 0 (now (count .exit)) ≡ crossed (now (card .entry)) (now (table .entry)) (now (pending .entry)) (call (save (now (out .entry)))) ⌝ }
+    ensures { λ r. ⌜ handed r (now (card .entry)) (now (table .entry)) (now (pending .entry)) (now (out .exit)) 0 0 (now (count .exit))
+        ≡ crossed (now (card .entry)) (now (table .entry)) (now (pending .entry)) (call (save (now (out .entry)))) ⌝ }
 {
     *count = 0;
     if !is_card(card) {
@@ -38,7 +39,8 @@ pub extern "C" fn musgarento_restore(
     pending: &mut [u8],
     image: &[u8],
 ) -> u8
-    ensures { λ r. ⌜ handed r (now (card .exit)) (now (table .exit)) (now (pending .exit)) [] 0 0 0 ≡ crossed (now (card .entry)) (now (table .entry)) (now (pending .entry)) (restore (now (image .entry))) ⌝ }
+    ensures { λ r. ⌜ handed r (now (card .exit)) (now (table .exit)) (now (pending .exit)) [] 0 0 0
+        ≡ crossed (now (card .entry)) (now (table .entry)) (now (pending .entry)) (restore (now (image .entry))) ⌝ }
 {
     if !is_card(card) {
         return 60;

@@ -16,7 +16,8 @@ pub extern "C" fn musgarento_config_read(
     width: u8,
     value: &mut u32,
 ) -> u8
-    ensures { λ r. ⌜ handed r (now (card .entry)) (now (table .entry)) (now (pending .entry)) [] (now (value .exit)) 0 0 ≡ crossed (now (card .entry)) (now (table .entry)) (now (pending .entry)) (call (configRead offset width)) ⌝ }
+    ensures { λ r. ⌜ handed r (now (card .entry)) (now (table .entry)) (now (pending .entry)) [] (now (value .exit)) 0 0
+        ≡ crossed (now (card .entry)) (now (table .entry)) (now (pending .entry)) (call (configRead offset width)) ⌝ }
 {
     *value = 0;
     if !is_card(card) {
@@ -40,7 +41,8 @@ pub extern "C" fn musgarento_bar_read(
     width: u8,
     value: &mut u64,
 ) -> u8
-    ensures { λ r. ⌜ handed r (now (card .entry)) (now (table .entry)) (now (pending .entry)) [] (now (value .exit)) 0 0 ≡ crossed (now (card .entry)) (now (table .entry)) (now (pending .entry)) (call (barRead bar offset width)) ⌝ }
+    ensures { λ r. ⌜ handed r (now (card .entry)) (now (table .entry)) (now (pending .entry)) [] (now (value .exit)) 0 0
+        ≡ crossed (now (card .entry)) (now (table .entry)) (now (pending .entry)) (call (barRead bar offset width)) ⌝ }
 {
     *value = 0;
     if !is_card(card) {

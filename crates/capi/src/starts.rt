@@ -21,7 +21,8 @@ pub extern "C" fn musgarento_start(
     table: &mut [u8],
     pending: &mut [u8],
 ) -> u8
-    ensures { λ r. ⌜ handed r (now (card .exit)) (now (table .exit)) (now (pending .exit)) [] 0 0 0 ≡ crossed (now (card .entry)) (now (table .entry)) (now (pending .entry)) (start (now (config .entry)) (now (sizes .entry)) events requester) ⌝ }
+    ensures { λ r. ⌜ handed r (now (card .exit)) (now (table .exit)) (now (pending .exit)) [] 0 0 0
+        ≡ crossed (now (card .entry)) (now (table .entry)) (now (pending .entry)) (start (now (config .entry)) (now (sizes .entry)) events requester) ⌝ }
 {
     if card.len() != Image::CARD {
         return 60;
@@ -47,7 +48,8 @@ pub extern "C" fn musgarento_reset(
     out: &mut [u8],
     count: &mut usize,
 ) -> u8
-    ensures { λ r. ⌜ handed r (now (card .exit)) (now (table .exit)) (now (pending .exit)) (now (out .exit)) 0 0 (now (count .exit)) ≡ crossed (now (card .entry)) (now (table .entry)) (now (pending .entry)) (call (reset (now (out .entry)))) ⌝ }
+    ensures { λ r. ⌜ handed r (now (card .exit)) (now (table .exit)) (now (pending .exit)) (now (out .exit)) 0 0 (now (count .exit))
+        ≡ crossed (now (card .entry)) (now (table .entry)) (now (pending .entry)) (call (reset (now (out .entry)))) ⌝ }
 {
     *count = 0;
     if !is_card(card) {

@@ -17,7 +17,8 @@ pub extern "C" fn musgarento_config_write(
     out: &mut [u8],
     count: &mut usize,
 ) -> u8
-    ensures { λ r. ⌜ handed r (now (card .exit)) (now (table .entry)) (now (pending .exit)) (now (out .exit)) 0 0 (now (count .exit)) ≡ crossed (now (card .entry)) (now (table .entry)) (now (pending .entry)) (call (configWrite offset width value (now (out .entry)))) ⌝ }
+    ensures { λ r. ⌜ handed r (now (card .exit)) (now (table .entry)) (now (pending .exit)) (now (out .exit)) 0 0 (now (count .exit))
+        ≡ crossed (now (card .entry)) (now (table .entry)) (now (pending .entry)) (call (configWrite offset width value (now (out .entry)))) ⌝ }
 {
     *count = 0;
     if !is_card(card) {
@@ -50,7 +51,8 @@ pub extern "C" fn musgarento_bar_write(
     out: &mut [u8],
     count: &mut usize,
 ) -> u8
-    ensures { λ r. ⌜ handed r (now (card .exit)) (now (table .exit)) (now (pending .exit)) (now (out .exit)) 0 0 (now (count .exit)) ≡ crossed (now (card .entry)) (now (table .entry)) (now (pending .entry)) (call (barWrite bar offset width value (now (out .entry)))) ⌝ }
+    ensures { λ r. ⌜ handed r (now (card .exit)) (now (table .exit)) (now (pending .exit)) (now (out .exit)) 0 0 (now (count .exit))
+        ≡ crossed (now (card .entry)) (now (table .entry)) (now (pending .entry)) (call (barWrite bar offset width value (now (out .entry)))) ⌝ }
 {
     *count = 0;
     if !is_card(card) {

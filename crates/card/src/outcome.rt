@@ -1,6 +1,5 @@
 // What a call hands back.
 ghost use mathlib.Core.Path.{_≡_};
-ghost use lib.ListN.{length};
 ghost use Rattle.card.specs.Outcomes.{refusedWith, acceptedWith};
 use model::Answer;
 use model::Card;

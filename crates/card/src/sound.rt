@@ -1,27 +1,85 @@
 // Soundness of a card with its lent buffers: its function, and the wire as it should be.
 ghost use mathlib.Core.Path.{_≡_};
-ghost use Rattle.model.specs.Shape.{shapeOf};
-ghost use Rattle.model.specs.World.{worldOf};
-ghost use Rattle.model.specs.Sound.{sound};
-use endpoint::sound::Soundness;
+ghost use mathlib.Core.List.{List};
+ghost use Prim.Native.Nat.{ℕ};
+ghost use Rattle.model.specs.Vectors.{commandBit};
+ghost use Rattle.model.specs.Release.{pinNumber};
+ghost use Rattle.vectors.specs.Given.{regs};
+ghost use Rattle.wire.specs.Wires as Wires;
+ghost use Rattle.card.specs.Running.{Checks, cardWith};
 use model::Card;
+use model::Mode;
+use model::Profile;
+use wire::Wiring;
 
-// Refusal 1 of every call but start and restore: whether the card is sound; and its shape.
-pub fn check(card: Card, table: &[u8], pending: &[u8]) -> Soundness
-    ensures { λ r. ⌜ (r .shape ≡ shapeOf (card .function .config)) × (r .sound ≡ sound (worldOf card (now (table .entry)) (now (pending .entry)))) ⌝ }
+// Whether a card is sound, what its configuration says, and the small state of its wire.
+pub struct Checked {
+    pub sound: bool,
+    pub profile: Profile,
+    pub wiring: Wiring,
+}
+
+// The small state of the wire, with a mechanism in force.
+fn wiring(config: &[u8; 256], line: bool, wire: bool, mode: Mode) -> Wiring
+    ensures { λ r. ⌜ ((t : List ℕ) → r ≡ Wires.wiring line wire mode (pinNumber (regs (now (config .entry)) t)) (commandBit (regs (now (config .entry)) t) 10)) ⌝ }
 {
-    let found = endpoint::sound::check(card.function, table, pending);
-    let s = found.shape;
+    let disabled = vectors::mode::command_bit(config, 10);
+    let pin = vectors::pin::pin_number(config);
+    Wiring {
+        line,
+        wire,
+        mode,
+        pin,
+        disabled,
+    }
+}
+
+// A card in parts: whether it is sound, and what is worked out in finding it so.
+fn check_parts<'a>(
+    config: &'a [u8; 256],
+    sizes: &'a [u32; 6],
+    events: u16,
+    requester: u16,
+    line: bool,
+    waiting: u32,
+    wire: bool,
+    table: &[u8],
+    pending: &[u8],
+) -> Checked
+    ensures { λ r. ⌜ Checks (cardWith (now (config .entry)) (now (sizes .entry)) events requester line waiting wire) (now (table .entry)) (now (pending .entry)) r ⌝ }
+{
+    let found = endpoint::sound::check(config, sizes, events, requester, waiting, table, pending);
+    let profile = found.profile;
+    let mode = profile.mode;
+    let wiring = wiring(config, line, wire, mode);
     if !found.sound {
-        return Soundness {
+        return Checked {
             sound: false,
-            shape: s,
+            profile,
+            wiring,
         };
     }
-    let wired = crate::settle::settle_wire(&card.function.config, card.function.line, card.wire, s);
-    let level = wired.wiring.wire;
-    Soundness {
-        sound: card.wire == level,
-        shape: s,
+    let due = wiring.due();
+    Checked {
+        sound: wire == due,
+        profile,
+        wiring,
     }
+}
+
+// Refusal 1 of every call but start and restore. What is worked out here once is handed to the call.
+pub fn check(card: Card, table: &[u8], pending: &[u8]) -> Checked
+    ensures { λ r. ⌜ Checks card (now (table .entry)) (now (pending .entry)) r ⌝ }
+{
+    check_parts(
+        &card.function.config,
+        &card.function.sizes,
+        card.function.events,
+        card.function.requester,
+        card.function.line,
+        card.function.waiting,
+        card.wire,
+        table,
+        pending,
+    )
 }

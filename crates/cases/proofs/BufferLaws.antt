@@ -5,7 +5,7 @@ use Prim.Native.Nat.{ℕ, _+_, _-_, _≤_, min}
 use native.Mathlib.Omega.{arith}
 use lib.Dec.{leb}
 use lib.ListN.{length, take, drop, replicate, length-take, length-drop, length-replicate, drop-of-length-le, replicate-append-replicate}
-use lib.Seq.{length-take-le, length-front, take-all, take-at}
+use lib.Seq.{length-take-le, take-all, take-at}
 use borrow.Author.Tests.{leb-true, leb-false}
 use Rattle.words.proofs.BoolLaws.{by-test}
 
@@ -41,17 +41,12 @@ written-part n k l t e h =
     let w : t ++ drop n l ≡ t = ap (λ (x : List ℕ). t ++ x) z ∙ append-nil t in
     ap (λ (x : List ℕ). take k x) w ∙ take-all k t (omega arith))
 
-module _ (n : ℕ) (l t : List ℕ) (h : n ≤ length l) (e : length t ≡ length (take n l)) where
-  pub written-within : n ≤ length (t ++ drop n l)
-  written-within = omega (arith, h, length-front l t n e)
+pub written-back : (n : ℕ) (l t : List ℕ) → n ≤ length l → length t ≡ length (take n l) → take n (t ++ drop n l) ≡ t
+written-back n l t h e = take-at t (drop n l) n (e ∙ length-take-le n l h)
 
-  pub written-back : take n (t ++ drop n l) ≡ t
-  written-back = take-at t (drop n l) n (e ∙ length-take-le n l h)
-
--- a part of m equal bytes
-pub equal-part : (n k m x : ℕ) → n ≡ min k (length (replicate m x)) → k ≤ m → take n (replicate m x) ≡ replicate k x
-equal-part n k m x e h =
+-- the first k of m equal bytes
+pub equal-bytes : (k m x : ℕ) → k ≤ m → take k (replicate m x) ≡ replicate k x
+equal-bytes k m x h =
     let g : k + (m - k) ≡ m = omega arith in
-    lent-part n k (replicate m x) e
-    ∙ ap (λ (l : List ℕ). take k l) (ap (λ (j : ℕ). replicate j x) (sym g) ∙ sym (replicate-append-replicate k (m - k) x))
+    ap (λ (l : List ℕ). take k l) (ap (λ (j : ℕ). replicate j x) (sym g) ∙ sym (replicate-append-replicate k (m - k) x))
     ∙ take-at (replicate k x) (replicate (m - k) x) k (length-replicate k x)

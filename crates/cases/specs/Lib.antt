@@ -1,3 +1,3 @@
-pub mod Decoded
-pub mod Digits
+pub mod Rows
+pub mod Steps
 pub mod Runs

@@ -1,44 +1,67 @@
 -- A run of the program, and the play of document 01's cases that it stands for. Assumes nothing.
+use mathlib.Core.Path.{_≡_}
 use mathlib.Core.Bool.{Bool, _&&_}
-use Prim.Native.Nat.{ℕ, _+_, _*_, _/_}
-use lib.Dec.{eqb}
+use mathlib.Core.List.{List}
+use Prim.Native.Nat.{ℕ, _+_, _*_, _/_, min}
 use lib.ListN.{take}
-use Rattle.words.specs.Lists.{same}
-use Rattle.model.specs.declared.Card.{Card}
+use Rattle.model.specs.declared.Answer.{Answer}
 use Rattle.model.specs.World.{worldOf}
-use Rattle.model.specs.Calls.{Outcome}
-use Rattle.model.specs.declared.Answer.the-variants.{Done}
-use Rattle.model.specs.Play.{Played, begun}
-use Rattle.model.specs.Cases.{msiCard, msixCard, sizesOf}
-use Rattle.cases.specs.declared.cases_limits.Saved.{Saved}
+use Rattle.model.specs.Calls.{operate}
+use Rattle.model.specs.Play.{Played, fresh, lentOutput, imageTaken, kindOf, detailOf}
+use Rattle.card.specs.Outcomes.{after}
+use Rattle.cases.specs.declared.answer.Code.{Code}
+use Rattle.cases.specs.declared.row.Row.{Row}
 use Rattle.cases.specs.declared.run.Run.{Run}
+use Rattle.cases.specs.declared.calls.Called.{Called}
+use Rattle.cases.specs.Steps.{operationOf, roomOf}
 
--- the card with the lent parts of its buffers, and whether every call so far gave what it should
+abbrev pub codeOf : Answer → Code
+codeOf a = record { kind = kindOf a; detail = detailOf a }
+
+-- the lent parts of the buffers that serve every case
+abbrev pub tableOf : Run → List ℕ
+tableOf run = take (16 * run .vectors) (run .table)
+
+abbrev pub pendingOf : Run → List ℕ
+pendingOf run = take (8 * ((run .vectors + 63) / 64)) (run .pending)
+
+-- the card with its lent buffers, the image that was kept, and whether every step so far gave what it should
 abbrev pub seen : Run → Played
-seen run =
+seen run = record { world = worldOf (run .card) (tableOf run) (pendingOf run); image = take 294 (run .image); good = run .good }
+
+-- the run after a call that gave what it should, or not
+abbrev pub judged : Run → Bool → Run
+judged run good =
     record {
-      world = worldOf (run .card) (take (16 * run .vectors) (run .table)) (take (8 * ((run .vectors + 63) / 64)) (run .pending));
-      good = run .good;
+      card = run .card;
+      vectors = run .vectors;
+      table = run .table;
+      pending = run .pending;
+      image = run .image;
+      good = run .good && good;
     }
 
--- the run with the card that a call handed back, and whether the call gave what it should
-abbrev pub judged : Run → Card → Bool → Run
-judged run card good = record { card = card; vectors = run .vectors; table = run .table; pending = run .pending; good = run .good && good }
+-- the run with another image, and with new buffers for v vectors
+abbrev pub withImage : Run → List ℕ → Run
+withImage run image =
+    record { card = run .card; vectors = run .vectors; table = run .table; pending = run .pending; image = image; good = run .good }
 
--- ---- images in case 12
+abbrev pub withBuffers : Run → ℕ → Run
+withBuffers run v =
+    record { card = run .card; vectors = v; table = fresh 160; pending = fresh 8; image = run .image; good = run .good }
 
--- the number of bytes, and the output
-abbrev pub imageIn : Outcome → Saved
-imageIn r = record { count = r .count; bytes = r .output }
+-- a row's call: its outcome with the buffers and the output afterwards, and the run after it
+pub record Calls (run : Run) (bytes : List ℕ) (row : Row) (r : Called) : Type 0 where
+  pub outcome : after (r .outcome) (tableOf (r .run)) (pendingOf (r .run)) (take (r .room) (r .out)) ≡ operate (seen run .world) (operationOf bytes row)
+  pub card : r .run .card ≡ r .outcome .card
+  pub image : r .run .image ≡ run .image
+  pub good : r .run .good ≡ run .good
+  pub room : r .room ≡ min (roomOf row) 300
+  pub fresh : take (r .room) (fresh 300) ≡ lentOutput (operationOf bytes row)
 
--- both are there, whole, and equal
-abbrev pub sameSaved : Saved → Saved → Bool
-sameSaved a b = eqb (a .count) 294 && eqb (b .count) 294 && same (a .bytes) (b .bytes)
-
--- ---- started cards
-
-abbrev pub msiBegun : (events : ℕ) → Played
-msiBegun events = begun msiCard (sizesOf 0 0) events 0 Done
-
-abbrev pub msixBegun : (vectors : ℕ) → Played
-msixBegun n = begun (msixCard 0 n 0 0x1000) (sizesOf 0x2000 0) n n Done
+-- a save over 294 bytes
+pub record Saves (run : Run) (r : Called) : Type 0 where
+  pub outcome : after (r .outcome) (tableOf (r .run)) (pendingOf (r .run)) (take 294 (r .out)) ≡ imageTaken (seen run .world)
+  pub card : r .run .card ≡ r .outcome .card
+  pub image : r .run .image ≡ run .image
+  pub good : r .run .good ≡ run .good

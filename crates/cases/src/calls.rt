@@ -1,158 +1,145 @@
-// The calls of the cases: each prints a line with its arguments and its answer.
+// The calls of the rows.
 ghost use mathlib.Core.Path.{_≡_};
+ghost use mathlib.Core.List.{[]};
 ghost use Prim.Native.Nat.{_≤_};
-ghost use Rattle.model.specs.Play.{played};
-ghost use Rattle.model.specs.Cases.{writes, stores, raises, drives, readsConfig, readsBar};
-ghost use Rattle.cases.specs.Runs.{seen};
-use crate::buffers::pending_length;
-use crate::buffers::table_length;
+ghost use lib.ListN.{length};
+ghost use Rattle.model.specs.World.{worldOf, endpointOf, zeroFunction};
+ghost use Rattle.model.specs.Calls.{operate, step, startOf, startGiven};
+ghost use Rattle.model.specs.Cases.{sizesOf};
+ghost use Rattle.card.specs.Outcomes.{after};
+ghost use Rattle.cases.specs.Steps.{configAt, askedBy, operationOver, roomOf};
+ghost use Rattle.cases.specs.Runs.{Calls};
 use crate::buffers::within;
-use crate::decimal;
-use crate::number;
+use crate::row::Row;
 use crate::run::Run;
-use crate::run::judge;
-use crate::text;
-use model::Answer;
+use card::outcome::Outcome;
+use model::Card;
 
-// What every output holds before a call.
-const FRESH: [u8; 64] = [0xee; 64];
+// The requester ID of every case.
+const REQUESTER: u16 = 0x0100;
 
-fn print_write(width: u8, value: u64) {
-    text(b", ");
-    decimal(width as u64);
-    text(b" bytes, ");
-    number(value, width);
-    text(b": ");
+// The length of the output that a call is lent.
+fn room(row: Row) -> usize
+    ensures { λ r. ⌜ r ≡ roomOf row ⌝ }
+{
+    let letter = row.kind;
+    match letter {
+        b's' => 0,
+        b'r' => 0,
+        b'R' => 0,
+        b'w' => 64,
+        b'W' => 64,
+        b'l' => 64,
+        b'z' => 64,
+        _ => row.b as usize,
+    }
 }
 
-// A configuration write that should send these packets.
-pub fn config_write(run: Run, offset: u16, width: u8, value: u32, packets: &[u8]) -> Run
-    ensures { λ r. ⌜ seen r ≡ played (seen run) (writes offset width value (now (packets .entry))) ⌝ }
+// A row's call that changes neither buffer.
+fn ask(card: Card, row: Row, table: &[u8], pending: &[u8], out: &mut [u8]) -> Outcome
+    requires { ⌜ length (now out) ≤ roomOf row ⌝ }
+    ensures { λ r. ⌜ after r (now (table .entry)) (now (pending .entry)) (now (out .exit))
+        ≡ step (worldOf card (now (table .entry)) (now (pending .entry))) (askedBy (row .kind) row (now (out .entry))) ⌝ }
 {
-    text(b"  configuration write at ");
-    number(offset as u64, 1);
-    print_write(width, value as u64);
-    let card = run.card;
-    let table = run.table;
-    let mut pending = run.pending;
-    let mut out = FRESH;
-    let t = table_length(run.vectors, &table);
-    let p = pending_length(run.vectors, &pending);
-    let o = config_access::config_write::config_write(
-        card,
-        &table[..t],
-        &mut pending[..p],
-        offset,
-        width,
-        value,
-        &mut out,
-    );
-    let mut after = run;
-    after.pending = pending;
-    judge(after, o, &out, &FRESH, Answer::Done, packets, 8)
+    let letter = row.kind;
+    let width = (row.b % 256) as u8;
+    match letter {
+        b'r' => config_access::config_read::config_read(card, table, pending, row.a, width),
+        b'R' => bar_access::bar_read::bar_read(card, table, pending, 0, row.a as u32, width),
+        b'l' => interrupt::line::line(card, table, pending, row.b != 0, out),
+        _ => snapshot::save::save(card, table, pending, out),
+    }
 }
 
-// A write of four bytes to BAR 0 that should send these packets.
-pub fn bar_write(run: Run, offset: u32, value: u64, packets: &[u8]) -> Run
-    ensures { λ r. ⌜ seen r ≡ played (seen run) (stores offset value (now (packets .entry))) ⌝ }
+fn start(row: Row, bytes: &[u8], table: &mut [u8], pending: &mut [u8]) -> Outcome
+    ensures { λ r. ⌜ after r (now (table .exit)) (now (pending .exit)) []
+        ≡ startOf (endpointOf zeroFunction (now (table .entry)) (now (pending .entry)))
+        (startGiven (endpointOf zeroFunction (now (table .entry)) (now (pending .entry))) (configAt (now (bytes .entry)) (row .place)) (sizesOf (row .c) (row .a))
+        (row .b) 0x100) ⌝ }
 {
-    text(b"  BAR 0 write at ");
-    number(offset as u64, 2);
-    print_write(4, value);
+    let config = crate::config::config_at(bytes, row.place);
+    let sizes = [row.c, row.a as u32, 0, 0, 0, 0];
+    lifecycle::start::start(config, sizes, row.b, REQUESTER, table, pending)
+}
+
+// A row's call.
+fn perform(
+    card: Card,
+    row: Row,
+    bytes: &[u8],
+    table: &mut [u8],
+    pending: &mut [u8],
+    out: &mut [u8],
+) -> Outcome
+    requires { ⌜ length (now out) ≤ roomOf row ⌝ }
+    ensures { λ r. ⌜ after r (now (table .exit)) (now (pending .exit)) (now (out .exit))
+        ≡ operate (worldOf card (now (table .entry)) (now (pending .entry))) (operationOver (now (bytes .entry)) row (now (out .entry))) ⌝ }
+{
+    let letter = row.kind;
+    let width = (row.b % 256) as u8;
+    match letter {
+        b's' => start(row, bytes, table, pending),
+        b'w' => config_access::config_write::config_write(
+            card,
+            table,
+            pending,
+            row.a,
+            width,
+            row.c,
+            out,
+        ),
+        b'W' => bar_access::bar_write::bar_write(
+            card,
+            table,
+            pending,
+            0,
+            row.a as u32,
+            width,
+            row.c as u64,
+            out,
+        ),
+        b'z' => lifecycle::reset::reset(card, table, pending, out),
+        b'e' => interrupt::event::event(card, table, pending, row.a, out),
+        _ => ask(card, row, table, pending, out),
+    }
+}
+
+// What a call gave, with the output and its length, and the run with the card and the buffers after it.
+pub struct Called {
+    pub run: Run,
+    pub outcome: Outcome,
+    pub out: [u8; 300],
+    pub room: usize,
+}
+
+// A row's call on the run's card.
+pub fn call(run: Run, row: Row, bytes: &[u8]) -> Called
+    ensures { λ r. ⌜ Calls run (now (bytes .entry)) row r ⌝ }
+{
     let card = run.card;
     let mut table = run.table;
     let mut pending = run.pending;
-    let mut out = FRESH;
-    let t = table_length(run.vectors, &table);
-    let p = pending_length(run.vectors, &pending);
-    let o = bar_access::bar_write::bar_write(
+    let mut out = [0xee; 300];
+    let t = crate::buffers::table_length(run.vectors, &table);
+    let p = crate::buffers::pending_length(run.vectors, &pending);
+    let n = within(room(row), &out);
+    let outcome = perform(
         card,
+        row,
+        bytes,
         &mut table[..t],
         &mut pending[..p],
-        0,
-        offset,
-        4,
-        value,
-        &mut out,
+        &mut out[..n],
     );
     let mut after = run;
+    let next = outcome.card;
+    after.card = next;
     after.table = table;
     after.pending = pending;
-    judge(after, o, &out, &FRESH, Answer::Done, packets, 8)
-}
-
-// An event over an output of `room` bytes.
-pub fn event(run: Run, number: u16, room: usize, answer: Answer, packets: &[u8]) -> Run
-    requires { ⌜ room ≤ 64 ⌝ }
-    ensures { λ r. ⌜ seen r ≡ played (seen run) (raises number room answer (now (packets .entry))) ⌝ }
-{
-    text(b"  event ");
-    decimal(number as u64);
-    text(b", output of ");
-    decimal(room as u64);
-    text(b" bytes: ");
-    let card = run.card;
-    let table = run.table;
-    let mut pending = run.pending;
-    let mut space = FRESH;
-    let t = table_length(run.vectors, &table);
-    let p = pending_length(run.vectors, &pending);
-    let n = within(room, &space);
-    let o = interrupt::event::event(
-        card,
-        &table[..t],
-        &mut pending[..p],
-        number,
-        &mut space[..n],
-    );
-    let mut after = run;
-    after.pending = pending;
-    judge(after, o, &space[..n], &FRESH[..n], answer, packets, 8)
-}
-
-// A change of the line that should send this packet.
-pub fn line(run: Run, level: bool, packet: &[u8]) -> Run
-    ensures { λ r. ⌜ seen r ≡ played (seen run) (drives level (now (packet .entry))) ⌝ }
-{
-    if level {
-        text(b"  line high: ");
-    } else {
-        text(b"  line low: ");
+    Called {
+        run: after,
+        outcome,
+        out,
+        room: n,
     }
-    let card = run.card;
-    let table = run.table;
-    let pending = run.pending;
-    let mut out = FRESH;
-    let t = table_length(run.vectors, &table);
-    let p = pending_length(run.vectors, &pending);
-    let o = interrupt::line::line(card, &table[..t], &pending[..p], level, &mut out);
-    judge(run, o, &out, &FRESH, Answer::Done, packet, 8)
-}
-
-// A read of the two bytes of Status.
-pub fn read_status(run: Run, value: u64) -> Run
-    ensures { λ r. ⌜ seen r ≡ played (seen run) (readsConfig 6 2 value) ⌝ }
-{
-    text(b"  configuration read at 06h, 2 bytes: ");
-    let card = run.card;
-    let table = run.table;
-    let pending = run.pending;
-    let t = table_length(run.vectors, &table);
-    let p = pending_length(run.vectors, &pending);
-    let o = config_access::config_read::config_read(card, &table[..t], &pending[..p], 6, 2);
-    judge(run, o, b"", b"", Answer::Value(value), b"", 2)
-}
-
-// A read of the eight bytes at 1000h of BAR 0.
-pub fn read_pending(run: Run, value: u64) -> Run
-    ensures { λ r. ⌜ seen r ≡ played (seen run) (readsBar 0x1000 value) ⌝ }
-{
-    text(b"  BAR 0 read at 1000h, 8 bytes: ");
-    let card = run.card;
-    let table = run.table;
-    let pending = run.pending;
-    let t = table_length(run.vectors, &table);
-    let p = pending_length(run.vectors, &pending);
-    let o = bar_access::bar_read::bar_read(card, &table[..t], &pending[..p], 0, 0x1000, 8);
-    judge(run, o, b"", b"", Answer::Value(value), b"", 8)
 }

@@ -1,58 +1,29 @@
-// The 256 configuration bytes that the cases start with. A list of capabilities starts at 40h.
+// The 256 configuration bytes that a case starts with.
 ghost use mathlib.Core.Path.{_≡_};
-ghost use Prim.Native.Nat.{_≤_};
-ghost use Rattle.words.specs.Bytes.{bytesOf};
-ghost use Rattle.model.specs.Cases.{put, msiCard, msixCard};
-ghost use Rattle.model.specs.Cases.{header as Cases·header, listed as Cases·listed};
+ghost use Rattle.words.specs.Bytes.{byte};
+ghost use Rattle.cases.specs.Steps.{configAt};
+use crate::buffers::part;
 
-// A word, the lowest byte first.
-fn with_word(given: [u8; 256], at: usize, value: u32) -> [u8; 256]
-    requires { ⌜ at ≤ 252 ⌝ }
-    ensures { λ r. ⌜ r ≡ put at (bytesOf 4 value) given ⌝ }
+// The byte at a place, 0 past the end.
+fn byte_at(s: &[u8], at: usize) -> u8
+    ensures { λ r. ⌜ r ≡ byte (now (s .entry)) at ⌝ }
 {
-    let mut config = given;
-    config[at] = (value % 256) as u8;
-    config[at + 1] = (value / 256 % 256) as u8;
-    config[at + 2] = (value / 65536 % 256) as u8;
-    config[at + 3] = (value / 16777216 % 256) as u8;
-    config
+    if at < s.len() {
+        return s[at];
+    }
+    0
 }
 
-// No capability, and a pin.
-pub fn header(pin: u8) -> [u8; 256]
-    ensures { λ r. ⌜ r ≡ Cases·header pin ⌝ }
+// The configuration at a place of the table's bytes.
+pub fn config_at(bytes: &[u8], place: u16) -> [u8; 256]
+    ensures { λ r. ⌜ r ≡ configAt (now (bytes .entry)) place ⌝ }
 {
+    let at = place as usize;
     let mut config = [0; 256];
-    config[0x3d] = pin;
+    config[0x06] = byte_at(bytes, at);
+    config[0x34] = byte_at(bytes, at + 1);
+    config[0x3d] = byte_at(bytes, at + 2);
+    let capability = part(bytes, at + 3, 12);
+    words::put::put_slice(&mut config[0x40..], capability);
     config
-}
-
-// Pin 1, and a list whose first capability is at 40h.
-fn listed() -> [u8; 256]
-    ensures { λ r. ⌜ r ≡ Cases·listed ⌝ }
-{
-    let mut config = header(1);
-    config[0x06] = 0x10;
-    config[0x34] = 0x40;
-    config
-}
-
-// MSI of the 32-bit form without masks, Multiple Message Capable 3.
-pub fn msi() -> [u8; 256]
-    ensures { λ r. ⌜ r ≡ msiCard ⌝ }
-{
-    let config = listed();
-    with_word(config, 0x40, 0x0006_0005)
-}
-
-// MSI-X with the words of its table and its pending array: an offset, and a BAR in the low three bits.
-pub fn msix(vectors: u8, table: u32, pending: u32) -> [u8; 256]
-    requires { ⌜ 1 ≤ vectors ⌝ }
-    ensures { λ r. ⌜ r ≡ msixCard 0 vectors table pending ⌝ }
-{
-    let control = (vectors - 1) as u32;
-    let head = listed();
-    let first = with_word(head, 0x40, control * 65536 + 0x11);
-    let second = with_word(first, 0x44, table);
-    with_word(second, 0x48, pending)
 }

@@ -1,30 +1,26 @@
 // The bench cases of document 01, run on the code. Each call prints a line, and the packets that it sent.
-// This file prints and counts: what a call gives, and whether that is right, is in the modules.
+// This file prints: what a call gives, and whether that is right, is in the modules.
 ghost use mathlib.Core.Path.{_≡_};
-ghost use mathlib.Core.Bool.{cond};
-ghost use Prim.Native.Nat.{_<_, _≤_};
+ghost use Prim.Native.Nat.{_≤_};
 ghost use lib.ListN.{length};
 ghost use Rattle.io.specs.Counts.{Counts};
-ghost use Rattle.cases.specs.Digits.{glyph, glyphs};
-use crate::packet::Level;
-use crate::packet::Message;
-use crate::packet::Packet;
+ghost use Rattle.cases.specs.Steps.{caseCount};
+use crate::row::Row;
 use crate::run::Run;
+use card::outcome::Outcome;
 use model::Answer;
+use tlp::decode::Level;
+use tlp::decode::Message;
+use tlp::decode::Packet;
 
 mod answer;
-mod begin;
 mod buffers;
 mod calls;
-mod cases_image;
-mod cases_limits;
-mod cases_msi;
-mod cases_msix;
-mod cases_wire;
 mod config;
-mod expected;
-mod packet;
+mod play;
+mod row;
 mod run;
+mod table;
 
 // Text to standard output: the contracts of the kit's `io` do not say what is written there.
 fn text(s: &[u8]) {
@@ -35,26 +31,12 @@ fn decimal(n: u64) {
     io::print_decimal(1, n);
 }
 
-// A hexadecimal digit, as document 01 writes it.
-fn digit(d: u8) -> u8
-    requires { ⌜ d < 16 ⌝ }
-    ensures { λ r. ⌜ r ≡ glyph d ⌝ }
-{
-    if d < 10 { 48 + d } else { 55 + d }
-}
-
-// The two digits of a byte.
-fn digits(b: u8) -> [u8; 2]
-    ensures { λ r. ⌜ r ≡ glyphs b ⌝ }
-{
-    let high = digit(b / 16);
-    let low = digit(b % 16);
-    [high, low]
-}
+// Hexadecimal digits, as document 01 writes them.
+const DIGITS: [u8; 16] = *b"0123456789ABCDEF";
 
 // One, two, four and eight bytes, the highest first.
 fn hex8(x: u8) {
-    let two = digits(x);
+    let two = [DIGITS[(x / 16) as usize], DIGITS[(x % 16) as usize]];
     text(&two);
 }
 
@@ -124,7 +106,7 @@ fn print_packet(s: &[u8]) {
     text(b"    ");
     bytes(s);
     text(b"\n    ");
-    let packet = packet::decode(s);
+    let packet = tlp::decode::decode(s);
     match packet {
         Packet::Message(m) => print_message(m),
         Packet::Wire(l) => print_level(l),
@@ -188,7 +170,7 @@ fn verdict(good: bool) {
 }
 
 // The state that no register access is needed for.
-fn state(run: Run) {
+fn print_state(run: Run) {
     text(b"  state: line ");
     if run.card.function.line {
         text(b"high, wire ");
@@ -210,49 +192,167 @@ fn state(run: Run) {
     text(b"\n");
 }
 
-// 1 for a case that is as document 01 says.
-fn one(good: bool) -> u64
-    ensures { λ r. ⌜ r ≡ cond good 1 0 ⌝ }
+fn print_config(config: [u8; 256]) {
+    text(b"  configuration: Status ");
+    hex8(config[0x06]);
+    text(b"h, list at ");
+    hex8(config[0x34]);
+    text(b"h, pin ");
+    decimal(config[0x3d] as u64);
+    text(b", bytes 40h to 4Bh: ");
+    bytes(&config[64..76]);
+    text(b"\n");
+}
+
+fn print_start(row: Row, bytes: &[u8]) {
+    let config = config::config_at(bytes, row.place);
+    print_config(config);
+    text(b"  start, E = ");
+    decimal(row.b as u64);
+    text(b", requester 0100h, BAR 0 of ");
+    hex32(row.c);
+    text(b"h bytes, BAR 1 of ");
+    hex32(row.a as u32);
+    text(b"h bytes: ");
+}
+
+// Offset and width of an access, and the value that is written.
+fn print_access(row: Row, offset_width: u8, writes: bool) {
+    number(row.a as u64, offset_width);
+    text(b", ");
+    decimal(row.b as u64);
+    text(b" bytes");
+    if writes {
+        text(b", ");
+        number(row.c as u64, (row.b % 256) as u8);
+    }
+    text(b": ");
+}
+
+fn print_event(row: Row) {
+    text(b"  event ");
+    decimal(row.a as u64);
+    text(b", output of ");
+    decimal(row.b as u64);
+    text(b" bytes: ");
+}
+
+// The start of a call's line: its arguments.
+fn print_call(row: Row, bytes: &[u8]) {
+    let letter = row.kind;
+    match letter {
+        b's' => print_start(row, bytes),
+        b'r' => {
+            text(b"  configuration read at ");
+            print_access(row, 1, false);
+        }
+        b'w' => {
+            text(b"  configuration write at ");
+            print_access(row, 1, true);
+        }
+        b'R' => {
+            text(b"  BAR 0 read at ");
+            print_access(row, 2, false);
+        }
+        b'W' => {
+            text(b"  BAR 0 write at ");
+            print_access(row, 2, true);
+        }
+        b'e' => print_event(row),
+        b'l' => if row.b != 0 {
+            text(b"  line high: ")
+        } else {
+            text(b"  line low: ")
+        },
+        b'z' => text(b"  reset: "),
+        _ => {
+            text(b"  save, output of ");
+            decimal(row.b as u64);
+            text(b" bytes: ");
+        }
+    }
+}
+
+// How many bytes are 0.
+fn zeros(s: &[u8]) -> usize
+    ensures { λ r. ⌜ r ≤ length (now (s .entry)) ⌝ }
 {
+    let mut n: usize = 0;
+    let mut i = 0;
+    while i < s.len() {
+        if s[i] == 0 {
+            n += 1;
+        }
+        i += 1;
+    }
+    n
+}
+
+// The first ten bytes of an image, and how many of the others are 0.
+fn print_image(image: &[u8]) {
+    let n = buffers::within(10, image);
+    let rest = &image[n..];
+    text(b"    ");
+    bytes(&image[..n]);
+    text(b"\n    then ");
+    decimal(rest.len() as u64);
+    text(b" bytes, of which ");
+    decimal(zeros(rest) as u64);
+    text(b" are 0\n");
+}
+
+// The end of a call's line, and its packets or image. A value is shown with as many bytes as were read.
+fn print_output(row: Row, o: Outcome, out: &[u8]) {
+    let answer = o.answer;
+    print_answer(answer, (row.b % 256) as u8);
+    let n = buffers::within(o.count, out);
+    if row.kind == b'i' {
+        print_image(&out[..n]);
+    } else {
+        print_packets(&out[..n]);
+    }
+}
+
+fn print_comparison(same: bool) {
+    if same {
+        text(b"  the two images are the same\n");
+    } else {
+        text(b"  the two images differ\n");
+    }
+    verdict(same);
+}
+
+fn print_title(row: Row, bytes: &[u8]) {
+    text(buffers::part(bytes, row.place as usize, row.size as usize));
+}
+
+// 1 for a case that is as document 01 says.
+fn one(number: u8) -> u64
+    requires { ⌜ (1 ≤ number) × (number ≤ caseCount) ⌝ }
+    ensures { λ r. ⌜ r ≡ 1 ⌝ }
+{
+    let good = play::case(number);
     text(b"\n");
     if good { 1 } else { 0 }
 }
 
-fn first_cases() -> u64
-    ensures { λ r. ⌜ r ≡ 5 ⌝ }
+// How many of the cases are as document 01 says.
+fn passed() -> u64
+    ensures { λ r. ⌜ r ≡ caseCount ⌝ }
 {
-    let a = one(cases_msi::case_1());
-    let b = one(cases_msi::case_2());
-    let c = one(cases_msi::case_3());
-    let d = one(cases_msi::case_4());
-    let e = one(cases_msix::case_5());
-    a + b + c + d + e
-}
-
-fn middle_cases() -> u64
-    ensures { λ r. ⌜ r ≡ 5 ⌝ }
-{
-    let a = one(cases_wire::case_6());
-    let b = one(cases_msix::case_7());
-    let c = one(cases_msix::case_8());
-    let d = one(cases_msix::case_9());
-    let e = one(cases_wire::case_10());
-    a + b + c + d + e
-}
-
-fn last_cases() -> u64
-    ensures { λ r. ⌜ r ≡ 3 ⌝ }
-{
-    let a = one(cases_image::case_11());
-    let b = one(cases_limits::case_12());
-    let c = one(cases_limits::case_13());
-    a + b + c
+    let mut n: u64 = 0;
+    let mut number: u8 = 1;
+    while number <= table::CASE_COUNT {
+        n += one(number);
+        number += 1;
+    }
+    n
 }
 
 fn main() {
-    let first = first_cases();
-    let middle = middle_cases();
-    let last = last_cases();
-    decimal(first + middle + last);
-    text(b" of 13 cases are as document 01 says\n");
+    let n = passed();
+    decimal(n);
+    text(b" of ");
+    decimal(table::CASE_COUNT as u64);
+    text(b" cases are as document 01 says\n");
 }

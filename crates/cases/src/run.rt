@@ -1,85 +1,73 @@
-// One case as it runs: what each call gives is printed, and compared with what document 01 says.
+// A case as it runs.
 ghost use mathlib.Core.Path.{_≡_};
-ghost use mathlib.Core.List.{[]};
-ghost use Rattle.model.specs.Play.{right};
-ghost use Rattle.card.specs.Outcomes.{after};
-ghost use Rattle.cases.specs.Runs.{judged};
-use crate::answer::same_answer;
-use crate::buffers::within;
-use crate::print_answer;
-use crate::print_packets;
-use crate::verdict;
-use card::outcome::Outcome;
-use model::Answer;
+ghost use Prim.Native.Nat.{min};
+ghost use Rattle.model.specs.Play.{played, lends, unplayed};
+ghost use Rattle.cases.specs.Runs.{seen, judged};
 use model::Card;
+use model::Function;
 
-// The card, N, the table and pending array in buffers that serve every case, and whether every call so far gave what it
-// should.
+// The card, N, the table and pending array in buffers that serve every case, the image that was kept, and whether every call so
+// far gave what it should.
 pub struct Run {
     pub card: Card,
     pub vectors: u8,
     pub table: [u8; 160],
     pub pending: [u8; 8],
+    pub image: [u8; 300],
     pub good: bool,
 }
 
-// Whether the outcome is this answer, with just these bytes new in an output that was `fresh`.
-pub fn matches(o: Outcome, out: &[u8], fresh: &[u8], answer: Answer, expected: &[u8]) -> bool
-    ensures { λ r. ⌜ r ≡ right (after o [] [] (now (out .entry))) answer (now (expected .entry)) (now (fresh .entry)) ⌝ }
+// No card yet.
+pub fn new() -> Run
+    ensures { λ r. ⌜ seen r ≡ unplayed ⌝ }
 {
-    let given = o.answer;
-    if !same_answer(given, answer) {
-        return false;
+    let function = Function {
+        config: [0; 256],
+        sizes: [0; 6],
+        events: 0,
+        requester: 0,
+        line: false,
+        waiting: 0,
+    };
+    let card = Card {
+        function,
+        wire: false,
+    };
+    Run {
+        card,
+        vectors: 0,
+        table: [0xee; 160],
+        pending: [0xee; 8],
+        image: [0xee; 300],
+        good: true,
     }
-    if o.count != expected.len() {
-        return false;
-    }
-    let n = within(o.count, out);
-    if !check::same(&out[..n], expected) {
-        return false;
-    }
-    let m = within(o.count, fresh);
-    check::same(&out[n..], &fresh[m..])
 }
 
-// The run with the card that a call hands back.
-pub fn next(run: Run, card: Card, good: bool) -> Run
-    ensures { λ r. ⌜ r ≡ judged run card good ⌝ }
+fn at_most_ten(n: u16) -> u8
+    ensures { λ r. ⌜ r ≡ min n 10 ⌝ }
+{
+    if n <= 10 {
+        return n as u8;
+    }
+    10
+}
+
+// New buffers for so many vectors, and at most ten.
+pub fn lend(run: Run, vectors: u16) -> Run
+    ensures { λ r. ⌜ seen r ≡ played (seen run) (lends (min vectors 10)) ⌝ }
 {
     let mut after = run;
-    after.card = card;
-    after.good = run.good & good;
+    after.vectors = at_most_ten(vectors);
+    after.table = [0xee; 160];
+    after.pending = [0xee; 8];
     after
 }
 
-// Whether a call should do more than prepare the case: that is, answer anything but done, or send.
-fn is_result(answer: Answer, expected: &[u8]) -> bool {
-    if expected.len() != 0 {
-        return true;
-    }
-    !same_answer(answer, Answer::Done)
-}
-
-// The end of a call's line, its packets, and whether both are as they should be. A value is shown with `width` bytes.
-pub fn judge(
-    run: Run,
-    o: Outcome,
-    out: &[u8],
-    fresh: &[u8],
-    answer: Answer,
-    expected: &[u8],
-    width: u8,
-) -> Run
-    ensures { λ r. ⌜ r ≡ judged run (o .card) (right (after o [] [] (now (out .entry))) answer (now (expected .entry)) (now (fresh .entry))) ⌝ }
+// The run after a call that gave what it should, or not.
+pub fn judge(run: Run, good: bool) -> Run
+    ensures { λ r. ⌜ r ≡ judged run good ⌝ }
 {
-    let given = o.answer;
-    print_answer(given, width);
-    let n = within(o.count, out);
-    print_packets(&out[..n]);
-    let good = matches(o, out, fresh, answer, expected);
-    if !good | is_result(answer, expected) {
-        verdict(good);
-    }
-    let card = o.card;
-    next(run, card, good)
+    let mut after = run;
+    after.good = run.good & good;
+    after
 }

@@ -1,38 +1,59 @@
--- A configuration write by the code and by the definition. Assumes nothing.
-use mathlib.Core.Path.{_≡_}
-use mathlib.Core.Bool.{true, false}
+-- What a configuration write does to a sound card. Assumes nothing.
+use mathlib.Core.Path.{_≡_, sym, ap, _∙_}
+use mathlib.Core.Bool.{false}
 use mathlib.Core.List.{List}
 use Prim.Native.Nat.{ℕ, _+_, _≤_}
-use Rattle.words.specs.Bytes.{bytesOf}
+use Rattle.words.specs.Bytes.{byte, bytesOf}
 use Rattle.model.specs.declared.Card.{Card}
 use Rattle.model.specs.declared.Function.{Function}
-use Rattle.model.specs.declared.Shape.{Shape}
-use Rattle.model.specs.World.{registers, worldOf, functionOf, endpointOf, withRegisters}
+use Rattle.model.specs.declared.Mode.{Mode}
+use Rattle.model.specs.declared.Profile.{Profile}
+use Rattle.model.specs.Shape.{formOf}
+use Rattle.model.specs.World.{Endpoint, registers, worldOf, functionOf, endpointOf, withRegisters}
 use Rattle.model.specs.Registers.{writable, written, configWritten}
-use Rattle.model.specs.Sound.{shape, sound}
-use Rattle.model.specs.Ready.{Ready}
-use Rattle.model.specs.Calls.{configWrite, badConfig, step}
-use Rattle.model.proofs.SoundLaws.{is-sound}
-use Rattle.model.proofs.SoundKept.{ready-config}
-use Rattle.model.proofs.FitLaws.{sound-fit}
-use Rattle.model.proofs.AccessCalls.{config-writes, config-passed}
-use Rattle.model.proofs.SettleCalls.{config-settles}
+use Rattle.model.specs.Vectors.{modeOf}
+use Rattle.model.specs.Release.{pinNumber}
+use Rattle.model.specs.Sound.{shape}
+use Rattle.model.specs.Calls.{configWrite, badConfig, settleOf, performed}
+use Rattle.model.proofs.Calls.Effects.{ready-config, pin-written}
+use Rattle.model.proofs.Calls.AccessCalls.{config-writes, config-passed}
+use Rattle.model.proofs.Calls.SettleCalls.{config-settles}
 use Rattle.registers.proofs.AccessLaws.{config-access}
-use Rattle.card.specs.Outcomes.{settleOf}
-use Rattle.card.proofs.CallsFor.{settles}
+use Rattle.vectors.specs.Given.{regs}
+use Rattle.wire.specs.declared.Wiring.{Wiring}
+use Rattle.card.specs.Running.{Running, Wires, Unsettled}
+use Rattle.card.proofs.SoundFor.{running-endpoint, running-fit}
+use Rattle.card.proofs.CallsFor.{core-settles}
 
-pub config-fits : (card : Card) (t p : List ℕ) (o n : ℕ) (s : Shape) → s ≡ shape (worldOf card t p .endpoint) → sound (worldOf card t p) ≡ true → badConfig o n ≡ false → (o + n ≤ 256) × (s .msi .capable ≤ 5)
-config-fits card t p o n s es k b = (config-access o n b .0, rw es (sound-fit (worldOf card t p) k .capable))
+module _ (card : Card) (t p : List ℕ) (k : Profile) (r : Running card t p k) (o n x : ℕ) (b : badConfig o n ≡ false) where
+  abbrev u : Endpoint
+  u = worldOf card t p .endpoint
 
--- the function f with the configuration c′ that the code wrote
-module _ (card : Card) (t p : List ℕ) (o n x : ℕ) (s : Shape) (c′ : List ℕ) (f : Function) (es : s ≡ shape (worldOf card t p .endpoint)) (ec : c′ ≡ written (writable s) (card .function .config) o (bytesOf n x)) (ef : f ≡ functionOf c′ (card .function .sizes) (card .function .events) (card .function .requester) (card .function .line) (card .function .waiting)) where
-  config-changed : endpointOf f t p ≡ withRegisters (worldOf card t p .endpoint) (configWritten (shape (worldOf card t p .endpoint)) (registers (worldOf card t p .endpoint)) o (bytesOf n x))
-  config-changed = rw (ef, ec, es)
+  pub write-asks : (o + n ≤ 256) × (k .shape .msi .capable ≤ 5) × (k .form ≡ formOf (k .shape))
+  write-asks = (config-access o n b .0, running-fit r .shape .capable, r .profiled .form)
 
-  pub config-ready : sound (worldOf card t p) ≡ true → Ready s (endpointOf f t p)
-  config-ready k = rw (ef, ec, es) (ready-config (worldOf card t p .endpoint) (is-sound (worldOf card t p) k .endpoint) o (bytesOf n x))
+  -- the function f with the configuration c that the code wrote, and the mechanism m that is then in force
+  module _ (c : List ℕ) (ec : c ≡ written (writable (k .shape)) (card .function .config) o (bytesOf n x)) (f : Function)
+      (ef : f ≡ functionOf c (card .function .sizes) (card .function .events) (card .function .requester) (card .function .line) (card .function .waiting)) where
+    changed : endpointOf f t p ≡ withRegisters u (configWritten (shape u) (registers u) o (bytesOf n x))
+    changed = rw (ef, ec, r .shaped)
 
-  pub config-step : (out : List ℕ) → sound (worldOf card t p) ≡ true → badConfig o n ≡ false → settleOf card s (endpointOf f t p) (worldOf card t p) out ≡ step (worldOf card t p) (configWrite o n x out)
-  config-step out k b =
-      settles card t p (configWrite o n x out) (endpointOf f t p) _ (config-settles (worldOf card t p) o n x out) s es config-changed k
-      (config-passed (worldOf card t p .endpoint) o n (configWrite o n x out) (config-writes x out) b)
+    pub write-unsettled : (w : Wiring) → Wires card k w → (m : Mode) → ((t : List ℕ) → m ≡ modeOf (k .shape) (regs (f .config) t))
+        → Unsettled card f t p w (record { shape = k .shape; form = k .form; mode = m })
+    unfolding pinNumber
+    write-unsettled w wires m em = record {
+      ready = rw (changed, r .shaped) (ready-config u (running-endpoint r) o (bytesOf n x));
+      profiled = record { fits = running-fit r .shape; form = r .profiled .form; mode = λ t. sym (em t) };
+      line = ap (λ (v : Wiring). v .line) (wires t) ∙ rw ef;
+      wire = ap (λ (v : Wiring). v .wire) (wires t);
+      pin = λ t. ap (λ (v : Wiring). v .pin) (wires t) ∙ pin-now t;
+    }
+      where
+        pin-now : (t : List ℕ) → pinNumber (regs (card .function .config) t) ≡ pinNumber (regs (f .config) t)
+        pin-now t =
+            sym (pin-written u (running-endpoint r) o (bytesOf n x)) ∙ ap (λ (v : Endpoint). byte (v .function .config) 0x3d) (sym changed)
+
+    pub write-settles : (out : List ℕ) → settleOf (worldOf card t p) (k .shape) (endpointOf f t p) out ≡ performed (worldOf card t p) (configWrite o n x out)
+    write-settles out =
+        core-settles (worldOf card t p) (configWrite o n x out) (endpointOf f t p) _ (config-settles (worldOf card t p) o n x out) (k .shape) (r .shaped) changed
+        (config-passed u o n (configWrite o n x out) (config-writes x out) b)

@@ -1,26 +1,23 @@
 -- The soundness check of a function that a start accepts, by each way out. Assumes nothing.
-use mathlib.Core.Path.{_≡_, refl, sym, ap, _∙_}
+use mathlib.Core.Path.{_≡_, sym, _∙_}
 use mathlib.Core.Bool.{Bool, true, false, not}
-use mathlib.Core.List.{List}
-use Prim.Native.Nat.{ℕ, _*_, _≤_}
+use Prim.Native.Nat.{ℕ}
 use lib.ListN.{length}
 use borrow.Author.Tests.{ne-eqb, not-true, not-false}
-use Rattle.model.specs.declared.Function.{Function}
 use Rattle.model.specs.declared.Shape.{Shape}
-use Rattle.model.specs.Shape.{shapeOf, formOf, msiPresent, tableBytes, pendingBytes}
 use Rattle.model.specs.Registers.{storedZero, entryZero}
-use Rattle.model.specs.World.{Endpoint, endpointOf}
+use Rattle.model.specs.World.{Endpoint}
 use Rattle.model.specs.Release.{owedNow}
 use Rattle.model.specs.Start.{startRefusal}
 use Rattle.model.specs.Sound.{givenOf, shape, zeroBits, waitsBelow, isEmpty, soundEndpoint}
 use Rattle.model.specs.Fit.{Fit}
 use Rattle.release.specs.Owed.{Lent}
 use Rattle.release.proofs.OwedLaws.{lent}
-use Rattle.model.proofs.SoundLaws.{accepts}
-use Rattle.model.proofs.StartLaws.{msi-high}
-use Rattle.model.proofs.FitLaws.{fit}
-use Rattle.model.proofs.SettleLaws.{below}
-use Rattle.model.proofs.SoundTests.{unsound-start, unsound-config, unsound-table, unsound-below, sound-owed}
+use Rattle.model.proofs.Sound.SoundLaws.{accepts}
+use Rattle.model.proofs.Sound.StartLaws.{msi-high}
+use Rattle.model.proofs.Shapes.FitLaws.{fit}
+use Rattle.model.proofs.Vectors.SettleLaws.{below}
+use Rattle.model.proofs.Sound.SoundTests.{unsound-start, unsound-config, unsound-table, unsound-below, sound-owed}
 use Rattle.registers.specs.Bounds.{MsiBounds}
 
 module _ (s : Shape) (u : Endpoint) (e : s ≡ shape u) (k : startRefusal (givenOf u) ≡ 0) where
@@ -28,7 +25,7 @@ module _ (s : Shape) (u : Endpoint) (e : s ≡ shape u) (k : startRefusal (given
   start-fit = rw (sym e) at (fit (givenOf u) (accepts (givenOf u) k))
 
   pub start-bounds : MsiBounds s
-  start-bounds = record { ends = start-fit .msi; capable = start-fit .capable; high = rw e (msi-high (u .function .config)) }
+  start-bounds = record { ends = start-fit .shape .msi; capable = start-fit .shape .capable; high = rw e (msi-high (u .function .config)) }
 
 module _ (s : Shape) (u : Endpoint) (c t w : Bool) (ec : c ≡ zeroBits (storedZero s) (u .function .config)) (et : t ≡ zeroBits entryZero (u .table)) (ew : w ≡ waitsBelow s u) where
   pub by-owed : (r : Bool) → startRefusal (givenOf u) ≡ 0 → not c ≡ false → not t ≡ false → not w ≡ false → r ≡ isEmpty (owedNow s u) → r ≡ soundEndpoint s u

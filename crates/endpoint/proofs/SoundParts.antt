@@ -1,12 +1,12 @@
 -- The parts of the soundness check, by each way to find them. Assumes nothing.
-use mathlib.Core.Path.{_≡_, refl, sym, ap, ap₂, _∙_}
-use mathlib.Core.Bool.{Bool, true, false, not, cond, _&&_, false≢true}
+use mathlib.Core.Path.{_≡_, refl, sym, ap, _∙_}
+use mathlib.Core.Bool.{Bool, true, false, not}
 use mathlib.Core.List.{List, [], _∷_}
-use Prim.Native.Nat.{ℕ, _+_, _-_, _*_, _/_, _%_, _^_, _≤_, _<_}
+use Prim.Native.Nat.{ℕ, _-_, _*_, _%_, _^_, _≤_, _<_}
 use native.Mathlib.Omega.{arith}
 use lib.Dec.{ltb, eqb}
 use lib.ListN.{length}
-use lib.Pow.{pow-mono, pow-lt}
+use lib.Pow.{pow-mono}
 use borrow.Author.Tests.{eq-eqb, ne-eqb, eqb-true, eqb-false, not-true, not-false}
 use Rattle.words.specs.Lists.{all, count, keep}
 use Rattle.words.specs.Bits.{bit}
@@ -21,12 +21,12 @@ use Rattle.model.specs.declared.Function.{Function}
 use Rattle.model.specs.declared.Shape.{Shape}
 use Rattle.model.specs.Shape.{msiPresent, msiVectors, tableBytes}
 use Rattle.model.specs.World.{Endpoint, registers, endpointOf}
-use Rattle.model.specs.Vectors.{waits, modeOf, owed, vectorCount}
+use Rattle.model.specs.Vectors.{modeOf, owed, vectorCount, pendingBit}
 use Rattle.model.specs.Release.{owedNow}
 use Rattle.model.specs.Sound.{waitsBelow, isEmpty}
 use Rattle.vectors.specs.Enabled.{msixEnabled}
 use Rattle.vectors.proofs.OpenLaws.{owed-shut}
-use Rattle.release.specs.Owed.{waitsAt, setBits, owedEntries, entries}
+use Rattle.release.specs.Owed.{setBits, owedEntries, entries}
 use Rattle.release.proofs.OwedLaws.{beyond-waits}
 use Rattle.endpoint.proofs.SweepFor.{owed-here}
 
@@ -62,8 +62,11 @@ unfolding isEmpty
 zero-bits w h =
     by-test (eqb w 0)
     (λ e. e ∙ sym (rw (eqb-true w 0 e) (ap isEmpty (no-set-bits 32) ∙ empty)))
-    (λ e. e ∙ sym (some-bit (setBits 32 w) (λ q. absurd (eqb-false w 0 e (bits-ext-below 32 w 0 h (omega arith) (λ k l. keep-nil (bit w) (count 0 32) q k (count-member 0 32 k (omega arith) (omega arith)) ∙ sym (bit-of-zero k)))))))
+    (λ e. e ∙ sym (some-bit (setBits 32 w) (λ q. absurd (eqb-false w 0 e (bits-ext-below 32 w 0 h (omega arith) (no-bit q))))))
   where
+    no-bit : setBits 32 w ≡ [] → (k : ℕ) → k < 32 → bit w k ≡ bit 0 k
+    no-bit q k l = keep-nil (bit w) (count 0 32) q k (count-member 0 32 k (omega arith) (omega arith)) ∙ sym (bit-of-zero k)
+
     empty : isEmpty [] ≡ true
     empty = refl
 
@@ -78,7 +81,7 @@ unfolding waitsBelow
 not-below f s t p r e n = rw (← e, not-true r n)
 
 pub both-below : (f : Function) (s : Shape) (t p : List ℕ) (r b : Bool) → r ≡ ltb (f .waiting) (2 ^ msiVectors s) → not r ≡ false
-    → b ≡ all (λ v. not (waitsAt p v)) (count (s .msix .vectors) (8 * length p - s .msix .vectors)) → b ≡ waitsBelow s (endpointOf f t p)
+    → b ≡ all (λ v. not (pendingBit p v)) (count (s .msix .vectors) (8 * length p - s .msix .vectors)) → b ≡ waitsBelow s (endpointOf f t p)
 unfolding waitsBelow
 both-below f s t p r b e n q = q ∙ beyond-waits (endpointOf f t p) (count (s .msix .vectors) (8 * length p - s .msix .vectors)) ∙ rw (← e, not-false r n)
 

@@ -1,42 +1,36 @@
 -- The sweep of each mechanism, as the code finds it. Assumes nothing.
-use mathlib.Core.Path.{_≡_, refl, sym, ap, ap₂, _∙_}
+use mathlib.Core.Path.{_≡_, refl, sym, ap, _∙_}
 use mathlib.Core.Bool.{Bool, true, false, not, _&&_}
-use mathlib.Core.List.{List, [], _∷_}
-use Prim.Native.Nat.{ℕ, _+_, _*_, _/_, _≤_, _<_, _^_}
+use mathlib.Core.List.{List, []}
+use Prim.Native.Nat.{ℕ, _+_, _≤_, _<_, _^_}
 use native.Mathlib.Omega.{arith}
-use lib.Bits.{bitAnd}
-use lib.Dec.{ltb}
 use lib.ListN.{length}
 use borrow.Author.Tests.{lt-ltb}
 use Rattle.words.specs.Lists.{join, keep, count}
-use Rattle.words.specs.Bits.{bit, clear}
+use Rattle.words.specs.Bits.{clear}
 use Rattle.words.specs.Writers.{Wrote}
-use Rattle.words.proofs.BitLaws.{bit-and}
-use Rattle.words.proofs.BoolLaws.{both}
 use Rattle.words.proofs.ListLaws.{keep-same, member-count, join-same}
 use Rattle.model.specs.declared.Mode.{Mode}
 use Rattle.model.specs.declared.Mode.the-variants.{Pin, Msi, Msix}
 use Rattle.model.specs.declared.Shape.{Shape}
-use Rattle.model.specs.Shape.{tableBytes, pendingBytes}
-use Rattle.model.specs.World.{Endpoint, Registers, registers, withWaiting, endpointOf}
-use Rattle.model.specs.Vectors.{owed, isOpen, waits, masked, vectorCount, modeOf, inForce, msixControlBit, msiControlBit, enabled, granted, enableField, commandBit}
+use Rattle.model.specs.Shape.{tableBytes}
+use Rattle.model.specs.World.{Endpoint, registers, withWaiting, endpointOf}
+use Rattle.model.specs.Vectors.{owed, isOpen, waits, masked, vectorCount, modeOf, inForce, msixControlBit, msiControlBit, enabled, granted, enableField, commandBit, entryMasked, pendingBit}
 use Rattle.model.specs.declared.Function.{Function}
 use Rattle.endpoint.specs.declared.sweep.Sent.{Sent}
-use Rattle.model.specs.Packets.{message, messageOf, msiUpper, msiAddress, msiData}
-use Rattle.model.specs.Release.{owedNow, swept, sweepBytes, clearAll}
-use Rattle.model.specs.Fit.{Fit}
-use Rattle.model.specs.Ready.{Below, Ready}
-use Rattle.vectors.specs.Given.{regs, FitShape}
+use Rattle.model.specs.Packets.{message, messageOf, msiUpper, msiAddress, msiData, entryMessage}
+use Rattle.model.specs.Release.{owedNow, swept, sweepBytes, clearAll, bytesFor, sweptFor}
+use Rattle.vectors.specs.Given.{regs}
 use Rattle.vectors.specs.Enabled.{msixEnabled}
 use Rattle.vectors.specs.Messages.{msiBase}
 use Rattle.vectors.specs.declared.message.Message.{Message}
 use Rattle.vectors.proofs.MessageLaws.{base-message}
 use Rattle.vectors.proofs.MsixLaws.{open-msix}
-use Rattle.vectors.proofs.OpenLaws.{owed-msi, owed-shut}
-use Rattle.release.specs.Owed.{setBits, msiPackets, entries, maskedAt, waitsAt, owes, owedEntries, entryMessage, entryPackets, clearPending, Lent, Released}
+use Rattle.vectors.proofs.OpenLaws.{owed-shut}
+use Rattle.release.specs.Owed.{setBits, msiPackets, entries, owes, owedEntries, entryPackets, clearPending, Released}
 use Rattle.release.proofs.OwedLaws.{entries-fit}
-use Rattle.release.proofs.Clearing.{clear-msix, clear-msi, clear-nothing}
-use Rattle.endpoint.specs.Sweeps.{bytesFor, sweptFor, Swept}
+use Rattle.release.proofs.Clearing.{clear-msix, clear-msi}
+use Rattle.endpoint.specs.Sweeps.{Swept}
 
 -- ---- the mechanism in force
 
@@ -82,12 +76,12 @@ unfolding sweptFor clearAll
 off-swept s u e = rw (owed-shut s u e)
 
 module _ (s : Shape) (u : Endpoint) (on : msixEnabled s (registers u) ≡ true) (fit : length (u .table) ≡ tableBytes s) where
-  open-here : (v : ℕ) → v < s .msix .vectors → isOpen Msix s (registers u) v ≡ not (maskedAt (u .table) v)
-  unfolding masked maskedAt
+  open-here : (v : ℕ) → v < s .msix .vectors → isOpen Msix s (registers u) v ≡ not (entryMasked (u .table) v)
+  unfolding masked entryMasked
   open-here v h = open-msix s (registers u) v ∙ rw (on, lt-ltb v (s .msix .vectors) h)
 
   pub owed-here : owed Msix s u ≡ owedEntries (u .table) (u .pending) (entries (u .table))
-  unfolding owed owedEntries vectorCount owes waits waitsAt
+  unfolding owed owedEntries vectorCount owes waits pendingBit
   owed-here =
       keep-same (λ v. isOpen Msix s (registers u) v && waits Msix u v) (owes (u .table) (u .pending)) (count 0 (s .msix .vectors))
       (λ v m. ap (λ (b : Bool). b && waits Msix u v) (open-here v (let p = member-count 0 (s .msix .vectors) v m in omega arith)))
@@ -125,7 +119,9 @@ none-sent bytes u u′ o e q = record { sent = rw (← e) (record { count = refl
 
 -- MSI's bytes do not depend on the buffers
 pub msi-anywhere : (s : Shape) (f : Function) (t p t′ p′ : List ℕ) → bytesFor Msi s (endpointOf f t p) ≡ bytesFor Msi s (endpointOf f t′ p′)
-unfolding bytesFor owed vectorCount isOpen inForce modeOf msixControlBit msiControlBit enabled granted enableField masked commandBit waits messageOf msiUpper msiAddress msiData
+unfolding
+    bytesFor owed vectorCount isOpen inForce modeOf msixControlBit msiControlBit enabled granted enableField masked commandBit waits
+    messageOf msiUpper msiAddress msiData entryMasked entryMessage pendingBit
 msi-anywhere s f t p t′ p′ = refl
 
 pub msix-room : (s : Shape) (f : Function) (t p : List ℕ) (n : ℕ) → msixEnabled s (regs (f .config) t) ≡ true → length t ≡ tableBytes s

@@ -1,27 +1,28 @@
 // Soundness of one function: all but the wire.
 ghost use mathlib.Core.Path.{_≡_};
+ghost use mathlib.Core.Bool.{Bool};
 ghost use mathlib.Core.List.{List};
 ghost use Prim.Native.Nat.{ℕ, _≤_, _<_, _^_};
 ghost use lib.Dec.{ltb};
 ghost use lib.ListN.{length};
-ghost use Rattle.model.specs.Shape.{shapeOf, msiVectors, tableBytes, pendingBytes};
+ghost use Rattle.model.specs.Shape.{msiVectors, tableBytes, pendingBytes};
 ghost use Rattle.model.specs.Fit.{Fit};
-ghost use Rattle.model.specs.World.{endpointOf};
+ghost use Rattle.model.specs.World.{functionOf, endpointOf};
 ghost use Rattle.model.specs.Release.{owedNow};
 ghost use Rattle.model.specs.Start.{startRefusal};
 ghost use Rattle.model.specs.Sound.{givenOf, waitsBelow, isEmpty, soundEndpoint};
 ghost use Rattle.registers.specs.Bounds.{MsiBounds};
-ghost use Rattle.vectors.specs.Given.{FitShape};
+ghost use Rattle.vectors.specs.Given.{Profiled};
 ghost use Rattle.release.specs.Owed.{Lent};
-ghost use Rattle.endpoint.specs.Parts.{eachOf};
-use model::Function;
+ghost use Rattle.endpoint.specs.Parts.{eachOf, Checked};
 use model::Mode;
+use model::Profile;
 use model::Shape;
 
-// Whether a function is sound, and its shape.
+// Whether a function is sound, and what its configuration says.
 pub struct Soundness {
     pub sound: bool,
-    pub shape: Shape,
+    pub profile: Profile,
 }
 
 // No MSI waiting bit at or above 2^Capable, and none where there is no MSI.
@@ -48,16 +49,16 @@ fn waits_below(waiting: u32, s: Shape, pending: &[u8]) -> bool
 }
 
 // No open vector waits.
-fn nothing_owed(config: &[u8; 256], waiting: u32, s: Shape, table: &[u8], pending: &[u8]) -> bool
-    requires { ⌜ FitShape s × Lent (now table) (now pending) × (length (now table) ≡ tableBytes s) ⌝ }
-    ensures { λ r. ⌜ eachOf (now (config .entry)) waiting (λ f. r ≡ isEmpty (owedNow s (endpointOf f (now (table .entry)) (now (pending .entry))))) ⌝ }
+fn nothing_owed(config: &[u8; 256], waiting: u32, k: Profile, table: &[u8], pending: &[u8]) -> bool
+    requires { ⌜ Profiled (now config) k × Lent (now table) (now pending) × (length (now table) ≡ tableBytes (k .shape)) ⌝ }
+    ensures { λ r. ⌜ eachOf (now (config .entry)) waiting (λ f. r ≡ isEmpty (owedNow (k .shape) (endpointOf f (now (table .entry)) (now (pending .entry))))) ⌝ }
 {
-    let mode = vectors::mode::mode(config, s);
+    let mode = k.mode;
     match mode {
         Mode::Pin => true,
-        Mode::Msi => crate::sweep::msi_owed(config, waiting, s) == 0,
+        Mode::Msi => crate::sweep::msi_owed(config, waiting, k.shape, k.form) == 0,
         Mode::Msix => {
-            if vectors::msix::msix_enabled(config, s) {
+            if vectors::msix::msix_enabled(config, k.shape) {
                 return release::msix::none_owed(table, pending);
             }
             true
@@ -66,11 +67,14 @@ fn nothing_owed(config: &[u8; 256], waiting: u32, s: Shape, table: &[u8], pendin
 }
 
 // What is left to check of a function that a start accepts.
-fn is_clean(config: &[u8; 256], waiting: u32, s: Shape, table: &[u8], pending: &[u8]) -> bool
-    requires { ⌜ MsiBounds s × Fit s (length (now table)) (length (now pending)) ⌝ }
-    ensures { λ r. ⌜ eachOf (now (config .entry)) waiting (λ f. startRefusal (givenOf (endpointOf f (now (table .entry)) (now (pending .entry)))) ≡ 0 → r ≡ soundEndpoint s (endpointOf f (now (table .entry)) (now (pending .entry)))) ⌝ }
+fn is_clean(config: &[u8; 256], waiting: u32, k: Profile, table: &[u8], pending: &[u8]) -> bool
+    requires { ⌜ MsiBounds (k .shape) × Fit (k .shape) (length (now table)) (length (now pending)) × Profiled (now config) k ⌝ }
+    ensures { λ r. ⌜ eachOf (now (config .entry)) waiting
+        (λ f. startRefusal (givenOf (endpointOf f (now (table .entry)) (now (pending .entry)))) ≡ 0
+        → r ≡ soundEndpoint (k .shape) (endpointOf f (now (table .entry)) (now (pending .entry)))) ⌝ }
 {
-    if !registers::clean::config_clean(config, s) {
+    let s = k.shape;
+    if !registers::clean::config_clean(config, s, k.form) {
         return false;
     }
     let n = s.msix.vectors;
@@ -80,28 +84,44 @@ fn is_clean(config: &[u8; 256], waiting: u32, s: Shape, table: &[u8], pending: &
     if !waits_below(waiting, s, pending) {
         return false;
     }
-    nothing_owed(config, waiting, s, table, pending)
+    nothing_owed(config, waiting, k, table, pending)
 }
 
-// A function with its lent buffers: whether it is sound, the wire aside, and its shape.
-pub fn check(f: Function, table: &[u8], pending: &[u8]) -> Soundness
-    ensures { λ r. ⌜ (r .shape ≡ shapeOf (f .config)) × (r .sound ≡ soundEndpoint (shapeOf (f .config)) (endpointOf f (now (table .entry)) (now (pending .entry)))) ⌝ }
+// A function with its lent buffers: whether it is sound, the wire aside, and what its configuration says.
+pub fn check<'a>(
+    config: &'a [u8; 256],
+    sizes: &'a [u32; 6],
+    events: u16,
+    requester: u16,
+    waiting: u32,
+    table: &[u8],
+    pending: &[u8],
+) -> Soundness
+    ensures { λ r. ⌜ ((line : Bool) → Checked (functionOf (now (config .entry)) (now (sizes .entry)) events requester line waiting) (now (table .entry)) (now (pending .entry)) r) ⌝ }
 {
     let started = layout::start::check_start(
-        &f.config,
-        &f.sizes,
-        f.events,
-        f.requester,
+        config,
+        sizes,
+        events,
+        requester,
         table.len(),
         pending.len(),
     );
-    let s = started.shape;
+    let shape = started.shape;
+    let form = started.form;
     if started.refusal != 0 {
+        let profile = Profile {
+            shape,
+            form,
+            mode: Mode::Pin,
+        };
         return Soundness {
             sound: false,
-            shape: s,
+            profile,
         };
     }
-    let sound = is_clean(&f.config, f.waiting, s, table, pending);
-    Soundness { sound, shape: s }
+    let mode = vectors::mode::mode(config, shape);
+    let profile = Profile { shape, form, mode };
+    let sound = is_clean(config, waiting, profile, table, pending);
+    Soundness { sound, profile }
 }

@@ -1,7 +1,7 @@
 -- A card's bytes and an image's, how many there are, and what they hold. Assumes nothing.
 use mathlib.Core.Path.{_≡_, refl, ap, _∙_}
 use mathlib.Core.List.{List, [], _++_}
-use Prim.Native.Nat.{ℕ, _+_, _*_}
+use Prim.Native.Nat.{ℕ, _*_}
 use native.Mathlib.Omega.{arith}
 use lib.ListN.{length, length-append}
 use Rattle.words.specs.Lists.{join}
@@ -9,9 +9,8 @@ use Rattle.words.specs.Bytes.{bytesOf}
 use Rattle.words.proofs.ByteLaws.{length-join32}
 use Rattle.model.specs.declared.Card.{Card}
 use Rattle.model.specs.World.{worldOf}
-use Rattle.model.specs.Image.{mark, flags, cardBytes, imageOf, functionIn}
+use Rattle.model.specs.Image.{mark, flags, cardBytes, imageOf, functionIn, functionFrom}
 use Rattle.image.specs.Layout.{numberBytes, imageSize}
-use Rattle.image.specs.Held.{functionFrom}
 
 -- ---- a card's bytes
 
@@ -52,5 +51,5 @@ image-size card table pending z c =
 
 -- an image from its first byte on
 pub from-start : (l : List ℕ) → functionFrom 0 l ≡ functionIn l
-unfolding functionFrom functionIn
+unfolding functionFrom
 from-start l = refl

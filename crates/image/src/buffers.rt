@@ -7,7 +7,8 @@ use crate::format::Image;
 // Copied into the lent buffers, which an image of this length fills.
 pub fn copy_buffers(image: &[u8], table: &mut [u8], pending: &mut [u8])
     requires { ⌜ length (now image) ≡ imageSize (length (now table)) (length (now pending)) ⌝ }
-    ensures { λ r. ⌜ (now (table .exit) ≡ take (length (now (table .entry))) (drop 294 (now (image .entry)))) × (now (pending .exit) ≡ drop (length (now (table .entry))) (drop 294 (now (image .entry)))) ⌝ }
+    ensures { λ r. ⌜ (now (table .exit) ≡ take (length (now (table .entry))) (drop 294 (now (image .entry))))
+        × (now (pending .exit) ≡ drop (length (now (table .entry))) (drop 294 (now (image .entry)))) ⌝ }
 {
     let start = Image::TABLE;
     let middle = start + table.len();

@@ -6,8 +6,7 @@ ghost use lib.ListN.{length, take, drop};
 ghost use Rattle.words.specs.Lists.{same};
 ghost use Rattle.words.specs.Bits.{bit};
 ghost use Rattle.words.specs.Bytes.{byte, part, word16, words32};
-ghost use Rattle.model.specs.Image.{mark, functionIn};
-ghost use Rattle.image.specs.Held.{functionFrom, cardIn};
+ghost use Rattle.model.specs.Image.{mark, functionIn, functionFrom, cardIn};
 use crate::format::Image;
 use model::Card;
 use model::Function;
@@ -104,13 +103,6 @@ pub fn card_function(image: &[u8]) -> Function
     ensures { λ r. ⌜ r ≡ functionIn (now (image .entry)) ⌝ }
 {
     function_from(image, 0)
-}
-
-pub fn line(image: &[u8]) -> bool
-    requires { ⌜ 6 ≤ length (now image) ⌝ }
-    ensures { λ r. ⌜ r ≡ bit (byte (now (image .entry)) 5) 0 ⌝ }
-{
-    line_from(image, 0)
 }
 
 pub fn wire(image: &[u8]) -> bool

@@ -1,24 +1,30 @@
--- The outcome of an event. Assumes nothing.
-use mathlib.Core.Bool.{cond}
+-- An event for a vector, and the card after it. Assumes nothing.
+use mathlib.Core.Bool.{Bool}
 use mathlib.Core.List.{List}
-use lib.Dec.{ltb}
-use lib.ListN.{length}
 use Prim.Native.Nat.{ℕ}
 use Rattle.model.specs.declared.Answer.the-variants.{Sent}
+use Rattle.model.specs.declared.Card.{Card}
+use Rattle.model.specs.declared.Function.{Function}
 use Rattle.model.specs.declared.Mode.{Mode}
 use Rattle.model.specs.declared.Shape.{Shape}
-use Rattle.model.specs.World.{World, Endpoint, registers}
+use Rattle.model.specs.World.{Endpoint, registers}
 use Rattle.model.specs.Packets.{messageOf}
 use Rattle.model.specs.Release.{Raised}
-use Rattle.model.specs.Calls as Calls
+use Rattle.card.specs.declared.outcome.Outcome.{Outcome}
+use Rattle.card.specs.Outcomes.{acceptedWith}
+use Rattle.card.specs.Running.{cardWith}
+use Rattle.interrupt.specs.declared.event.Fate.{Fate}
 
--- an event on a card whose wire it leaves: 6 where its packet is longer than the output
-unfoldable pub raiseOf : World → Raised → List ℕ → Calls.Outcome
-raiseOf w r out =
-    cond (ltb (length out) (length (r .bytes)))
-    (Calls.refused w 6 out)
-    (Calls.accepted (record { endpoint = r .endpoint; wire = w .wire }) (r .answer) (r .bytes) out)
-
--- an event for an open vector
+-- the vector is open: its message is sent, and nothing changes
 abbrev pub sentBy : Mode → Shape → Endpoint → ℕ → Raised
 sentBy m s u v = record { endpoint = u; bytes = messageOf m s (u .function .requester) (registers u) v; answer = Sent }
+
+-- what holds of every card with this configuration, this requester and these MSI waiting bits
+abbrev pub eachCard : (config : List ℕ) (requester waiting : ℕ) → (Card → Type 0) → Type 0
+eachCard config requester waiting P = (sizes : List ℕ) (events : ℕ) (line wire : Bool) → P (cardWith config sizes events requester line waiting wire)
+
+-- the card with the waiting bits that an event left, its answer and its count
+abbrev pub fated : Card → Fate → Outcome
+fated card r =
+    let f : Function = card .function in
+    acceptedWith (cardWith (f .config) (f .sizes) (f .events) (f .requester) (f .line) (r .waiting) (card .wire)) (r .answer) (r .count)

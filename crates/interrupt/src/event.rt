@@ -6,81 +6,151 @@ ghost use lib.ListN.{length};
 ghost use Rattle.words.specs.Bits.{setBit};
 ghost use Rattle.model.specs.Shape.{tableBytes, pendingBytes};
 ghost use Rattle.model.specs.Fit.{Fit};
-ghost use Rattle.model.specs.World.{endpointOf, worldOf};
+ghost use Rattle.model.specs.World.{Endpoint, worldOf, withWaiting};
 ghost use Rattle.model.specs.Vectors.{vectorCount, changeWaiting};
 ghost use Rattle.model.specs.Release.{raiseVector};
-ghost use Rattle.model.specs.Calls.{step, event};
-ghost use Rattle.vectors.specs.Given.{FitShape};
+ghost use Rattle.model.specs.Calls.{performed, step, event, raiseOf};
+ghost use Rattle.vectors.specs.Given.{Profiled};
 ghost use Rattle.card.specs.Outcomes.{after};
-ghost use Rattle.interrupt.specs.Raises.{raiseOf, sentBy};
+ghost use Rattle.card.specs.Running.{Running};
+ghost use Rattle.interrupt.specs.Raises.{sentBy, eachCard, fated};
 use card::outcome::Outcome;
 use card::outcome::accepted;
 use card::outcome::refused;
 use model::Answer;
 use model::Card;
 use model::Event;
-use model::Function;
 use model::Mode;
+use model::Profile;
 use model::Shape;
 use model::Vector;
 
-// The waiting bit of vector v set.
-fn hold(f: Function, s: Shape, m: Mode, pending: &mut [u8], v: Vector) -> Function
+// What became of an event for a vector: its answer, or the refusal 6; how many bytes were sent; and MSI's waiting bits after it.
+struct Fate {
+    answer: Answer,
+    count: usize,
+    waiting: u32,
+}
+
+// The waiting bit of vector v set, MSI's in the word that is given and handed back.
+fn hold(waiting: u32, s: Shape, m: Mode, pending: &mut [u8], v: Vector) -> u32
     requires { ⌜ (s .msi .capable ≤ 5) × (length (now pending) ≡ pendingBytes s) × (v .0 < vectorCount m s) ⌝ }
-    ensures { λ r. ⌜ ((t : List ℕ) → endpointOf r t (now (pending .exit)) ≡ changeWaiting setBit m (endpointOf f t (now (pending .entry))) (v .0)) ⌝ }
+    ensures { λ r. ⌜ ((u : Endpoint) → withWaiting u r (now (pending .exit)) ≡ changeWaiting setBit m (withWaiting u waiting (now (pending .entry))) (v .0)) ⌝ }
 {
     match m {
-        Mode::Pin => f,
-        Mode::Msi => {
-            let waiting = vectors::waiting::set_waiting(f.waiting, v);
-            card::changed::with_waiting(f, waiting)
-        }
+        Mode::Pin => waiting,
+        Mode::Msi => vectors::waiting::set_waiting(waiting, v),
         Mode::Msix => {
             vectors::waiting::set_pending(pending, v);
-            f
+            waiting
         }
     }
 }
 
 // Vector v is open: its message, or 6.
-fn send(card: Card, s: Shape, m: Mode, table: &[u8], v: Vector, out: &mut [u8]) -> Outcome
-    requires { ⌜ FitShape s × (length (now table) ≡ tableBytes s) × (v .0 < vectorCount m s) ⌝ }
-    ensures { λ r. ⌜ ((p : List ℕ) → after r (now (table .entry)) p (now (out .exit)) ≡ raiseOf (worldOf card (now (table .entry)) p) (sentBy m s (worldOf card (now (table .entry)) p .endpoint) (v .0)) (now (out .entry))) ⌝ }
+fn send(
+    config: &[u8; 256],
+    requester: u16,
+    waiting: u32,
+    k: Profile,
+    table: &[u8],
+    v: Vector,
+    out: &mut [u8],
+) -> Fate
+    requires { ⌜ Profiled (now config) k × (length (now table) ≡ tableBytes (k .shape)) × (v .0 < vectorCount (k .mode) (k .shape)) ⌝ }
+    ensures { λ r. ⌜ ((p : List ℕ)
+        → eachCard (now (config .entry)) requester waiting
+        (λ card. after (fated card r) (now (table .entry)) p (now (out .exit))
+        ≡ raiseOf (worldOf card (now (table .entry)) p) (sentBy (k .mode) (k .shape) (worldOf card (now (table .entry)) p .endpoint) (v .0)) (now (out .entry)))) ⌝ }
 {
-    let message = vectors::message::vector_message(&card.function.config, s, m, table, v);
+    let message = vectors::message::vector_message(config, k, table, v);
     if out.len() < tlp::message_size(message.upper) {
-        return refused(card, 6);
+        return Fate {
+            answer: Answer::Refused(6),
+            count: 0,
+            waiting,
+        };
     }
-    let count = vectors::message::put_vector_message(out, card.function.requester, message);
-    accepted(card, Answer::Sent, count)
+    let count = vectors::message::put_vector_message(out, requester, message);
+    Fate {
+        answer: Answer::Sent,
+        count,
+        waiting,
+    }
 }
 
-// An event for vector v of the mechanism m: sent, merged or held.
+// An event for vector v of the mechanism in force: sent, merged or held.
 fn raise(
-    card: Card,
-    s: Shape,
-    m: Mode,
+    config: &[u8; 256],
+    requester: u16,
+    waiting: u32,
+    k: Profile,
     v: Vector,
     table: &[u8],
     pending: &mut [u8],
     out: &mut [u8],
-) -> Outcome
-    requires { ⌜ Fit s (length (now table)) (length (now pending)) × (v .0 < vectorCount m s) ⌝ }
-    ensures { λ r. ⌜ after r (now (table .entry)) (now (pending .exit)) (now (out .exit)) ≡ raiseOf (worldOf card (now (table .entry)) (now (pending .entry))) (raiseVector m s (worldOf card (now (table .entry)) (now (pending .entry)) .endpoint) (v .0)) (now (out .entry)) ⌝ }
+) -> Fate
+    requires { ⌜ Profiled (now config) k × Fit (k .shape) (length (now table)) (length (now pending)) × (v .0 < vectorCount (k .mode) (k .shape)) ⌝ }
+    ensures { λ r. ⌜ eachCard (now (config .entry)) requester waiting
+        (λ card. after (fated card r) (now (table .entry)) (now (pending .exit)) (now (out .exit))
+        ≡ raiseOf (worldOf card (now (table .entry)) (now (pending .entry)))
+        (raiseVector (k .mode) (k .shape) (worldOf card (now (table .entry)) (now (pending .entry)) .endpoint) (v .0)) (now (out .entry))) ⌝ }
 {
-    let f = card.function;
-    if vectors::open::is_open(&f.config, s, m, table, v) {
-        return send(card, s, m, table, v, out);
+    if vectors::open::is_open(config, k, table, v) {
+        return send(config, requester, waiting, k, table, v, out);
     }
-    if vectors::waiting::waits(m, f.waiting, pending, v) {
-        return accepted(card, Answer::Merged, 0);
+    let mode = k.mode;
+    if vectors::waiting::waits(mode, waiting, pending, v) {
+        return Fate {
+            answer: Answer::Merged,
+            count: 0,
+            waiting,
+        };
     }
-    let function = hold(f, s, m, pending, v);
-    let wire = card.wire;
-    accepted(Card { function, wire }, Answer::Held, 0)
+    let held = hold(waiting, k.shape, mode, pending, v);
+    Fate {
+        answer: Answer::Held,
+        count: 0,
+        waiting: held,
+    }
 }
 
-// Event `number`: its vector is sent, held or merged; with the pin in force the event is lost.
+// Event `number` on a sound card: its vector is sent, held or merged; with the pin in force the event is lost.
+pub fn event_core(
+    card: Card,
+    k: Profile,
+    table: &[u8],
+    pending: &mut [u8],
+    number: u16,
+    out: &mut [u8],
+) -> Outcome
+    requires { ⌜ Running card (now table) (now pending) k ⌝ }
+    ensures { λ r. ⌜ after r (now (table .entry)) (now (pending .exit)) (now (out .exit)) ≡ performed (worldOf card (now (table .entry)) (now (pending .entry))) (event number (now (out .entry))) ⌝ }
+{
+    if card.function.events <= number {
+        return refused(card, 2);
+    }
+    let mode = k.mode;
+    if vectors::mode::is_pin(mode) {
+        return accepted(card, Answer::Lost, 0);
+    }
+    let v = vectors::event::event_vector(&card.function.config, k.shape, mode, Event(number));
+    let fate = raise(
+        &card.function.config,
+        card.function.requester,
+        card.function.waiting,
+        k,
+        v,
+        table,
+        pending,
+        out,
+    );
+    let function = card::changed::with_waiting(card.function, fate.waiting);
+    let wire = card.wire;
+    let answer = fate.answer;
+    accepted(Card { function, wire }, answer, fate.count)
+}
+
 pub fn event(card: Card, table: &[u8], pending: &mut [u8], number: u16, out: &mut [u8]) -> Outcome
     ensures { λ r. ⌜ after r (now (table .entry)) (now (pending .exit)) (now (out .exit)) ≡ step (worldOf card (now (table .entry)) (now (pending .entry))) (event number (now (out .entry))) ⌝ }
 {
@@ -88,14 +158,6 @@ pub fn event(card: Card, table: &[u8], pending: &mut [u8], number: u16, out: &mu
     if !checked.sound {
         return refused(card, 1);
     }
-    if card.function.events <= number {
-        return refused(card, 2);
-    }
-    let s = checked.shape;
-    let mode = vectors::mode::mode(&card.function.config, s);
-    if vectors::mode::is_pin(mode) {
-        return accepted(card, Answer::Lost, 0);
-    }
-    let v = vectors::event::event_vector(&card.function.config, s, mode, Event(number));
-    raise(card, s, mode, v, table, pending, out)
+    let k = checked.profile;
+    event_core(card, k, table, pending, number, out)
 }

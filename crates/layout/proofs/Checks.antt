@@ -3,13 +3,12 @@ use mathlib.Core.Path.{_≡_, refl, sym, ap, ap₂, _∙_}
 use mathlib.Core.Bool.{Bool, true, false, not, _&&_, _||_}
 use mathlib.Core.List.{List, [], _∷_}
 use Prim.Native.Nat.{ℕ, _+_, _%_, _≤_, _<_}
-use native.Mathlib.Omega.{arith}
 use borrow.Author.Tests.{eq-eqb, ne-eqb, lt-ltb, le-ltb}
 use lib.Dec.{ltb, eqb}
 use lib.ListN.{length}
 use Rattle.words.specs.Lists.{all, overlap, firstOf}
 use Rattle.model.specs.Capabilities.{capabilities, listed, broken, withId}
-use Rattle.model.specs.Shape.{forms, formOf, msiPresent, msixPresent, tableBytes, pendingBytes, shapeOf}
+use Rattle.model.specs.Shape.{formOf, msiPresent, msixPresent, tableBytes, pendingBytes, shapeOf}
 use Rattle.model.specs.Start.{Given, badHeader, misplaced, badStructures, outside, badRegions, badEvents, badBuffers, twice, startRefusal}
 use Rattle.model.specs.declared.Shape.{Shape}
 use Rattle.layout.specs.Checks.{apart, badMsi, badMsix, badPair, listedTwice}

@@ -11,7 +11,7 @@ use Rattle.words.specs.Bytes.{byte}
 use Rattle.words.proofs.BoolLaws.{cond-elim}
 use Rattle.words.proofs.ListLaws.{Holds, holds-nil, holds-cons}
 use Rattle.model.specs.Capabilities.{pointer, walkStep, walk, capabilities, listed, withId}
-use Rattle.model.proofs.CapabilityLaws.{first-listed}
+use Rattle.model.proofs.Shapes.CapabilityLaws.{first-listed}
 use Rattle.layout.specs.Places.{foundOf}
 use Rattle.layout.specs.Shapes.{Place}
 

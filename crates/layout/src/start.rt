@@ -1,23 +1,25 @@
 // The checks of a start, in document 01's order.
 ghost use mathlib.Core.Path.{_≡_};
 ghost use Prim.Native.Nat.{_+_, _^_, _≤_, _<_};
-ghost use Rattle.model.specs.Shape.{shapeOf, tableBytes, pendingBytes};
+ghost use Rattle.model.specs.Shape.{formOf, shapeOf, tableBytes, pendingBytes};
 ghost use Rattle.model.specs.Start.{given, badHeader, outside, badRegions, badEvents, badBuffers, startRefusal};
 ghost use Rattle.layout.specs.Places.{listingOf};
 ghost use Rattle.layout.specs.Shapes.{Bounded};
 ghost use Rattle.layout.specs.Checks.{listedTwice};
 use crate::capability::Listing;
 use crate::capability::read_list;
+use crate::form::form;
 use crate::shape::shape;
 use crate::structure::bad_structures;
-use crate::structure::overlap;
+use model::Form;
 use model::Region;
 use model::Shape;
 
-// A start's refusal, 0 if there is none, and the shape.
+// A start's refusal, 0 if there is none, the shape, and the form of MSI.
 pub struct Checked {
     pub refusal: u8,
     pub shape: Shape,
+    pub form: Form,
 }
 
 // The lengths of table and pending array.
@@ -88,7 +90,7 @@ fn bad_regions(sizes: &[u32; 6], s: Shape) -> bool
     if table.bar != pending.bar {
         return false;
     }
-    overlap(table.at, n, pending.at, m)
+    words::ranges::overlap(table.at, n, pending.at, m)
 }
 
 // 15: E not 1 to 2,048, or MSI-X present and N not E
@@ -127,8 +129,9 @@ fn refusal<'a>(
     pending: usize,
     l: Listing,
     s: Shape,
+    f: Form,
 ) -> u8
-    requires { ⌜ (l ≡ listingOf (now config)) × (s ≡ shapeOf (now config)) × Bounded s ⌝ }
+    requires { ⌜ (l ≡ listingOf (now config)) × (s ≡ shapeOf (now config)) × Bounded s × (f ≡ formOf s) ⌝ }
     ensures { λ r. ⌜ r ≡ startRefusal (given (now (config .entry)) (now (sizes .entry)) events requester table pending) ⌝ }
 {
     if bad_header(config) {
@@ -140,7 +143,7 @@ fn refusal<'a>(
     if listed_twice(l) {
         return 12;
     }
-    if bad_structures(config, s) {
+    if bad_structures(config, s, f) {
         return 13;
     }
     if bad_regions(sizes, s) {
@@ -168,10 +171,15 @@ pub fn check_start<'a>(
     pending: usize,
 ) -> Checked
     ensures { λ r. ⌜ (r .refusal ≡ startRefusal (given (now (config .entry)) (now (sizes .entry)) events requester table pending))
-        × (r .shape ≡ shapeOf (now (config .entry))) × Bounded (r .shape) ⌝ }
+        × (r .shape ≡ shapeOf (now (config .entry))) × Bounded (r .shape) × (r .form ≡ formOf (r .shape)) ⌝ }
 {
     let l = read_list(config);
     let s = shape(config, l);
-    let refusal = refusal(config, sizes, events, requester, table, pending, l, s);
-    Checked { refusal, shape: s }
+    let f = form(s);
+    let refusal = refusal(config, sizes, events, requester, table, pending, l, s, f);
+    Checked {
+        refusal,
+        shape: s,
+        form: f,
+    }
 }

@@ -1,31 +1,24 @@
 // Where the MSI and MSI-X structures stand in the configuration.
 ghost use mathlib.Core.Path.{_≡_};
 ghost use mathlib.Core.Bool.{false};
-ghost use Prim.Native.Nat.{_+_, _^_, _<_};
+ghost use Prim.Native.Nat.{_+_, _<_};
 ghost use Rattle.words.specs.Lists.{overlap};
 ghost use Rattle.model.specs.Capabilities.{capabilities, listed, broken};
+ghost use Rattle.model.specs.Shape.{formOf};
 ghost use Rattle.model.specs.Start.{misplaced, badStructures};
 ghost use Rattle.layout.specs.Checks.{apart, badMsi, badMsix, badPair};
 ghost use Rattle.layout.specs.Shapes.{Bounded};
 use crate::capability::first_pointer;
 use crate::capability::place;
-use crate::form::form;
+use model::Form;
 use model::Shape;
-
-// n places from a on and m places from b on have one in common.
-pub fn overlap(a: usize, n: usize, b: usize, m: usize) -> bool
-    requires { ⌜ (a + n < 2 ^ 64) × (b + m < 2 ^ 64) ⌝ }
-    ensures { λ r. ⌜ r ≡ overlap a n b m ⌝ }
-{
-    a < b + m && b < a + n
-}
 
 // The header at o is the structure's own, or stands outside of its n bytes at a.
 fn apart(o: usize, a: usize, n: usize) -> bool
     requires { ⌜ (o < 256) × (a < 256) × (n < 256) ⌝ }
     ensures { λ r. ⌜ r ≡ apart a n o ⌝ }
 {
-    o == a || !overlap(o, 2, a, n)
+    o == a || !words::ranges::overlap(o, 2, a, n)
 }
 
 // A structure of n bytes at a runs past byte FFh, or has another listed header inside it.
@@ -83,15 +76,14 @@ fn bad_pair(s: Shape, n: usize) -> bool
     if s.msix.at == 0 {
         return false;
     }
-    overlap(s.msi.at, n, s.msix.at, 12)
+    words::ranges::overlap(s.msi.at, n, s.msix.at, 12)
 }
 
 // Multiple Message Capable above 5; or a structure misplaced, or overlapping the other one.
-pub fn bad_structures(c: &[u8; 256], s: Shape) -> bool
-    requires { ⌜ (broken (capabilities (now c)) ≡ false) × Bounded s ⌝ }
+pub fn bad_structures(c: &[u8; 256], s: Shape, f: Form) -> bool
+    requires { ⌜ (broken (capabilities (now c)) ≡ false) × Bounded s × (f ≡ formOf s) ⌝ }
     ensures { λ r. ⌜ r ≡ badStructures (listed (capabilities (now (c .entry)))) s ⌝ }
 {
-    let f = form(s);
     let n = f.size;
     if bad_msi(c, s, n) {
         return true;

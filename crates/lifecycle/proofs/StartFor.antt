@@ -15,9 +15,9 @@ use Rattle.model.specs.World.{Endpoint, functionOf, endpointOf, zeroFunction}
 use Rattle.model.specs.Start.{Given, startRefusal, started}
 use Rattle.model.specs.Fit.{Fit}
 use Rattle.model.specs.Calls.{accepted, startOf}
-use Rattle.model.proofs.StartCalls as StartCalls
-use Rattle.model.proofs.SoundLaws.{accepts}
-use Rattle.model.proofs.FitLaws.{fit}
+use Rattle.model.proofs.Calls.StartCalls as StartCalls
+use Rattle.model.proofs.Sound.SoundLaws.{accepts}
+use Rattle.model.proofs.Shapes.FitLaws.{fit}
 use Rattle.card.specs.declared.outcome.Outcome.{Outcome}
 use Rattle.card.specs.Outcomes.{refusedWith, acceptedWith, zeroCard, after}
 

@@ -43,7 +43,9 @@ pub fn start(
     table: &mut [u8],
     pending: &mut [u8],
 ) -> Outcome
-    ensures { λ r. ⌜ after r (now (table .exit)) (now (pending .exit)) [] ≡ startOf (endpointOf zeroFunction (now (table .entry)) (now (pending .entry))) (given config sizes events requester (length (now (table .entry))) (length (now (pending .entry)))) ⌝ }
+    ensures { λ r. ⌜ after r (now (table .exit)) (now (pending .exit)) []
+        ≡ startOf (endpointOf zeroFunction (now (table .entry)) (now (pending .entry)))
+        (given config sizes events requester (length (now (table .entry))) (length (now (pending .entry)))) ⌝ }
 {
     let checked = layout::start::check_start(
         &config,
@@ -57,7 +59,8 @@ pub fn start(
         return refused(zero_card(), checked.refusal);
     }
     let s = checked.shape;
-    let function = started(config, sizes, events, requester, s, table, pending);
+    let form = checked.form;
+    let function = started(config, sizes, events, requester, s, form, table, pending);
     accepted(
         Card {
             function,

@@ -2,9 +2,10 @@
 ghost use mathlib.Core.Path.{_≡_};
 ghost use lib.ListN.{length};
 ghost use Rattle.model.specs.Fit.{Fit};
-ghost use Rattle.model.specs.Shape.{shapeOf};
+ghost use Rattle.model.specs.Shape.{formOf, shapeOf};
 ghost use Rattle.model.specs.Start.{started};
 ghost use Rattle.model.specs.World.{endpointOf};
+use model::Form;
 use model::Function;
 use model::Shape;
 
@@ -15,13 +16,14 @@ pub fn started(
     events: u16,
     requester: u16,
     s: Shape,
+    f: Form,
     table: &mut [u8],
     pending: &mut [u8],
 ) -> Function
-    requires { ⌜ (s ≡ shapeOf config) × Fit s (length (now table)) (length (now pending)) ⌝ }
+    requires { ⌜ (s ≡ shapeOf config) × Fit s (length (now table)) (length (now pending)) × (f ≡ formOf s) ⌝ }
     ensures { λ r. ⌜ endpointOf r (now (table .exit)) (now (pending .exit)) ≡ started config sizes events requester ⌝ }
 {
-    let fixed = registers::start::started_config(&config, s);
+    let fixed = registers::start::started_config(&config, s, f);
     let n = s.msix.vectors;
     registers::table::started_table(table, n);
     words::put::fill(pending, 0);

@@ -1,42 +1,34 @@
 -- No call makes more than 40,976 bytes of packets, and an image has 294 + 16N + 8 x (N/64 rounded up), at most 33,318. Assumes nothing.
-use mathlib.Core.Path.{_≡_, refl, sym, ap, ap₂, _∙_}
-use mathlib.Core.Bool.{Bool, true, false, not, cond, _&&_, true≢false}
-use mathlib.Core.List.{List, [], _∷_, _++_}
-use Prim.Native.Nat.{ℕ, zero, suc, _+_, _*_, _/_, _^_, _≤_, _<_}
-use native.Mathlib.Nat.{mul-le-mul-left}
+use mathlib.Core.Path.{_≡_, ap₂, _∙_, subst}
+use mathlib.Core.Bool.{Bool, true, false, _&&_}
+use mathlib.Core.List.{List}
+use Prim.Native.Nat.{ℕ, _+_, _*_, _/_, _≤_}
 use native.Mathlib.Omega.{arith}
-use lib.Dec.{ltb, eqb}
 use lib.ListN.{length, length-append}
-use lib.Pow.{pow-mono}
-use borrow.Author.Tests.{ltb-false, eqb-true}
-use Rattle.words.specs.Lists.{join, count, keep}
-use Rattle.words.proofs.BoolLaws.{by-test, cond-elim}
+use Rattle.words.specs.Lists.{join, count}
+use Rattle.words.proofs.BoolLaws.{cond-elim}
 use Rattle.words.proofs.ListLaws.{join-length, keep-length, length-count}
 use Rattle.model.specs.declared.Mode.{Mode}
 use Rattle.model.specs.declared.Mode.the-variants.{Pin, Msi, Msix}
 use Rattle.model.specs.declared.Shape.{Shape}
-use Rattle.model.specs.Capabilities.{capabilities, listed}
 use Rattle.model.specs.Shape.{shapeOf, tableBytes, pendingBytes}
 use Rattle.model.specs.Start.{Given}
-use Rattle.words.specs.Bytes.{bytesOf}
-use Rattle.model.specs.World.{World, Endpoint, Registers, registers}
+use Rattle.model.specs.World.{World, Endpoint, registers}
 use Rattle.model.specs.Vectors.{modeOf, owed, vectorCount, isOpen, waits, vectorOf}
 use Rattle.model.specs.Packets.{messageOf}
-use Rattle.model.specs.Release.{Raised, raise, raiseVector, raisedBy, owedNow, sweepBytes, settleBytes, wireDueOf, wireChange}
+use Rattle.model.specs.Release.{Raised, raise, raiseVector, raisedBy, owedNow, sweepBytes, settleBytes, wireDueOf, bytesFor}
 use Rattle.model.specs.Sound.{sound, shape, givenOf}
 use Rattle.model.specs.Image.{imageOf}
 use Rattle.model.specs.Claims.{Typed}
-use Rattle.model.specs.Calls.{Call, Outcome, configRead, configWrite, barRead, barWrite, event, line, reset, save, isSave, sends, changed, refusal, step}
-use Rattle.model.proofs.PlaceLaws.{Placed, placed}
-use Rattle.model.proofs.PacketLaws.{vector-le, change-le}
-use Rattle.model.proofs.SweepLaws.{msi-present}
-use Rattle.model.proofs.SoundLaws.{Accepts, accepts, events-fit, buffers-fit, SoundEndpoint, Sound, is-sound}
-use Rattle.model.proofs.StartLaws.{few-vectors, few-msi}
+use Rattle.model.specs.Calls.{Call, Outcome, isSave, next, sends, step}
+use Rattle.model.proofs.Vectors.PacketLaws.{vector-le, change-le}
+use Rattle.model.proofs.Sound.SoundLaws.{Accepts, accepts, buffers-fit, is-sound}
+use Rattle.model.proofs.Sound.StartLaws.{few-vectors, few-msi}
 use Rattle.model.specs.Ready.{Ready}
-use Rattle.model.proofs.EventLaws.{msix-present, event-bytes, Raises, raises}
-use Rattle.model.proofs.SoundKept.{ready-config, ready-bar, ready-line, event-below}
-use Rattle.model.proofs.Refusals.{answered-elim, Passed, passed-all}
-use Rattle.model.proofs.ImageLaws.{image-length}
+use Rattle.model.proofs.Vectors.EventLaws.{event-bytes}
+use Rattle.model.proofs.Calls.CallLaws.{step-elim}
+use Rattle.model.proofs.Calls.Effects.{Effect, reads, settles, raises, restarts, effect}
+use Rattle.model.proofs.Image.ImageLaws.{image-length}
 
 -- ---- a sweep
 
@@ -52,7 +44,7 @@ owed-length m s u =
     omega (arith, keep-length (λ v. isOpen m s (registers u) v && waits m u v) (count 0 (vectorCount m s)), length-count 0 (vectorCount m s))
 
 pub sweep-le : (u : Endpoint) (s : Shape) → Ready s u → length (sweepBytes s u) ≤ 40960
-unfolding sweepBytes owedNow
+unfolding sweepBytes bytesFor owedNow
 sweep-le u s k =
     let m : Mode = modeOf s (registers u) in
     let a : length (join (messageOf m s (u .function .requester) (registers u)) (owed m s u)) ≤ 20 * length (owed m s u) =
@@ -84,23 +76,16 @@ event-le u e = raised-le (modeOf (shape u) (registers u)) u e
 
 -- ---- every call
 
-sends-le : (w : World) (c : Call) → isSave c ≡ false → Passed w c → length (sends w c) ≤ 40976
-unfolding sends changed isSave
-sends-le w (configRead o n) e p = omega arith
-sends-le w (configWrite o n x out) e p = settle-le _ (w .wire) _ (ready-config (w .endpoint) (is-sound w (p .isSound) .endpoint) o (bytesOf n x))
-sends-le w (barRead b o n) e p = omega arith
-sends-le w (barWrite b o n x out) e p = settle-le _ (w .wire) _ (ready-bar (w .endpoint) (is-sound w (p .isSound) .endpoint) b o (bytesOf n x))
-sends-le w (event x out) e p =
-    rw (length-append, event-bytes w (is-sound w (p .isSound)) x (event-below (w .endpoint) x out (p .own))) (omega (arith, event-le (w .endpoint) x))
-sends-le w (line level out) e p = settle-le _ (w .wire) _ (ready-line (w .endpoint) (is-sound w (p .isSound) .endpoint) level)
-sends-le w (reset out) e p = omega (arith, change-le (w .endpoint .function .requester) (registers (w .endpoint)) (w .wire) false)
-sends-le w (save out) e p = absurd (true≢false e)
+sends-le : (w : World) → sound w ≡ true → {v : World} {bytes : List ℕ} → Effect w false v bytes → length bytes ≤ 40976
+sends-le w k reads = omega arith
+sends-le w k (settles u h) = settle-le (shape (w .endpoint)) (w .wire) u (h .ready)
+sends-le w k (raises e h) = rw (length-append, event-bytes w (is-sound w k) e h) (omega (arith, event-le (w .endpoint) e))
+sends-le w k restarts = omega (arith, change-le (w .endpoint .function .requester) (registers (w .endpoint)) (w .wire) false)
 
 -- no call makes more than 40,976 bytes of packets
 pub bytes-bound : (w : World) (c : Call) → isSave c ≡ false → step w c .count ≤ 40976
-unfolding step
 bytes-bound w c s =
-    answered-elim (λ (r : Outcome). r .count ≤ 40976) (refusal w c) _ _ (λ e. sends-le w c s (passed-all w c e)) (λ _. omega arith)
+    step-elim w c (λ (r : Outcome). r .count ≤ 40976) (λ p. sends-le w (p .isSound) (subst (λ (b : Bool). Effect w b (next w c) (sends w c)) s (effect w c p))) (λ _ _. omega arith)
 
 -- a sound card's image has 294 + 16N + 8 x (N/64 rounded up) bytes, at most 33,318
 pub image-size : (w : World) → Typed w → sound w ≡ true

@@ -12,9 +12,9 @@ use Rattle.model.specs.Shape.{shapeOf}
 use Rattle.model.specs.Start.{Given}
 use Rattle.model.specs.Calls.{Call, configRead, configWrite, barRead, barWrite, event, line, reset, save}
 use Rattle.model.specs.History.{Entry, Past, Location, configByte, tableByte, isReset, resets, puts, wrote, startRegisters, writableAt, latest, registersBy, byteAt, Has, wroteBit, Holds}
-use Rattle.model.proofs.HistoryBytes.{byte-by}
-use Rattle.model.proofs.HistoryRegisters.{idle-resets, idle-wrote}
-use Rattle.model.proofs.LatestLaws.{latestBit, latest-iff}
+use Rattle.model.proofs.History.HistoryBytes.{byte-by}
+use Rattle.model.proofs.History.HistoryRegisters.{idle-resets, idle-wrote}
+use Rattle.model.proofs.History.LatestLaws.{latestBit, latest-iff}
 
 -- no entry is both an accepted write and an accepted reset
 apart : (s : Shape) (a : Location) (k : ℕ) (y : Bool) (x : Entry) → wroteBit s x a k ≡ some y → resets x ≡ false

@@ -1,32 +1,31 @@
 -- Demand 2, images: given buffers that fit, restore accepts an image exactly if saving some sound card writes it, and gives that card back.
 -- Assumes nothing.
-use mathlib.Core.Path.{_≡_, refl, sym, ap, ap₂, _∙_}
-use mathlib.Core.Bool.{Bool, true, false, not, _&&_, _||_, true≢false, false≢true}
-use mathlib.Core.List.{List, [], _∷_, _++_}
+use mathlib.Core.Path.{_≡_, refl, sym, ap, _∙_}
+use mathlib.Core.Bool.{true, not, false≢true}
+use mathlib.Core.List.{List, []}
 use mathlib.Core.Logic.{_↔_}
-use Prim.Native.Nat.{ℕ, zero, suc, _+_, _*_, _/_, _^_, _≤_, _<_, min}
+use Prim.Native.Nat.{ℕ, zero, suc, _^_, _≤_, min}
 use native.Mathlib.Omega.{arith}
 use lib.Dec.{ltb, eqb}
 use lib.ListN.{length, take, drop, length-take, length-drop}
 use native.Mathlib.Nat.{min-eq-left}
-use borrow.Author.Tests.{eqb-true, eq-eqb, le-ltb, ltb-false, not-false}
+use borrow.Author.Tests.{eq-eqb, le-ltb, ltb-false, not-false}
 use Rattle.words.specs.Lists.{same, firstOf}
 use Rattle.words.specs.Bytes.{byte, number, word16, word32, words32, part, bytesOf, Below, empty, more, Bytes}
-use Rattle.words.proofs.BoolLaws.{both, neither, and-intro, passed, row-passes}
+use Rattle.words.proofs.BoolLaws.{both, neither, passed}
 use Rattle.words.proofs.ListLaws.{same-true, same-refl}
 use Rattle.words.proofs.ByteLaws.{number-lt, drop-bytes}
-use Rattle.model.specs.declared.Answer.{Answer}
 use Rattle.model.specs.declared.Answer.the-variants.{Done}
 use Rattle.model.specs.Answers.{isAccepted}
-use Rattle.model.specs.Shape.{shapeOf, tableBytes, pendingBytes}
-use Rattle.model.specs.World.{World, Endpoint}
+use Rattle.model.specs.Shape.{tableBytes}
+use Rattle.model.specs.World.{World}
 use Rattle.model.specs.Sound.{sound, shape, givenOf}
-use Rattle.model.specs.Image.{mark, cardBytes, flags, imageOf, functionIn, worldIn, isSaved, restoreRefusal}
-use Rattle.model.specs.Calls.{Outcome, accepted, answered, restoreOf}
-use Rattle.model.proofs.SoundLaws.{Accepts, accepts, buffers-fit, Sound, is-sound}
+use Rattle.model.specs.Image.{mark, imageOf, functionFrom, worldIn, isSaved, restoreRefusal}
+use Rattle.model.specs.Calls.{Outcome, accepted, restoreOf}
+use Rattle.model.proofs.Sound.SoundLaws.{accepts, buffers-fit, is-sound}
 use Rattle.model.specs.Claims.{Typed, SavedBy, SameRoom}
-use Rattle.model.proofs.ImageLaws.{image-reads, image-length}
-use Rattle.model.proofs.Refusals.{answered-elim, answered-yes}
+use Rattle.model.proofs.Image.ImageLaws.{image-reads, image-length}
+use Rattle.model.proofs.Calls.CallLaws.{answered-elim, answered-yes}
 
 -- ---- a sound card's image is accepted, and gives the card back
 
@@ -88,7 +87,7 @@ length-words (suc n) l = ap suc (length-words n (drop 4 l))
 
 -- what an image of at least 294 bytes holds has the declared types
 held-typed : (image : List ℕ) → Bytes image → 294 ≤ length image → Typed (worldIn image)
-unfolding worldIn functionIn part word16 word32
+unfolding worldIn functionFrom part word16 word32
 held-typed image b h = record {
   config = length-take 256 (drop 38 image) ∙ short (omega (arith, length-drop 38 image));
   sizes = length-words 6 (drop 14 image);
@@ -114,7 +113,8 @@ saved-by image t p b e =
 pub image-saved : (w : World) (image : List ℕ) → Bytes image → isAccepted (restoreOf w image .answer) ≡ true → SavedBy image (restoreOf w image .world)
 unfolding restoreOf isAccepted
 image-saved w image b =
-    answered-elim (λ (r : Outcome). isAccepted (r .answer) ≡ true → SavedBy image (r .world)) (restoreRefusal image (length (w .endpoint .table)) (length (w .endpoint .pending))) _ _
+    answered-elim (restoreRefusal image (length (w .endpoint .table)) (length (w .endpoint .pending))) _ _
+    (λ (r : Outcome). isAccepted (r .answer) ≡ true → SavedBy image (r .world))
     (λ e _. saved-by image (length (w .endpoint .table)) (length (w .endpoint .pending)) b e) (λ _ e. absurd (false≢true e))
 
 -- ---- the theorem

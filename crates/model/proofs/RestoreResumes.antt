@@ -1,36 +1,30 @@
 -- Demand 3, second part: whatever was called in between, a restore of a saved image resumes as if at once after the save. Assumes nothing.
-use mathlib.Core.Path.{_≡_, refl, sym, ap, ap₂, _∙_}
-use mathlib.Core.Bool.{Bool, true, false, not, cond, _&&_, true≢false, false≢true}
-use mathlib.Core.List.{List, [], _∷_, _++_}
-use Prim.Native.Nat.{ℕ, _-_, _*_}
-use lib.Dec.{ltb, eqb}
-use lib.ListN.{length, take, replicate, length-replicate}
+use mathlib.Core.Path.{_≡_, refl, sym, ap, _∙_}
+use mathlib.Core.Bool.{Bool, true, not, false≢true}
+use mathlib.Core.List.{List, [], _∷_}
+use Prim.Native.Nat.{ℕ}
+use lib.Dec.{eqb}
+use lib.ListN.{length, length-replicate}
 use lib.Seq.{take-append-seam}
 use borrow.Author.Tests.{eqb-true, not-false}
-use Rattle.words.specs.Lists.{firstOf}
-use Rattle.words.specs.Bytes.{bytesOf}
-use Rattle.words.proofs.BoolLaws.{neither, passed, cond-elim}
-use Rattle.model.specs.declared.Mode.{Mode}
-use Rattle.model.specs.declared.Mode.the-variants.{Pin, Msi, Msix}
-use Rattle.model.specs.declared.Answer.{Answer}
+use Rattle.words.proofs.BoolLaws.{neither, passed}
 use Rattle.model.specs.declared.Answer.the-variants.{Done}
 use Rattle.model.specs.Answers.{isAccepted}
 use Rattle.model.specs.Shape.{shapeOf, tableBytes, pendingBytes}
-use Rattle.model.specs.Registers.{startedTable, entryWritable, written, inTable}
-use Rattle.model.specs.World.{World, Endpoint, registers}
-use Rattle.model.specs.Release.{settled, swept}
+use Rattle.model.specs.World.{World, Endpoint}
+use Rattle.model.specs.Release.{settled}
 use Rattle.model.specs.Start.{Given, startRefusal}
 use Rattle.model.specs.Sound.{sound, shape, givenOf}
 use Rattle.model.specs.Image.{imageOf, worldIn, restoreRefusal}
 use Rattle.model.specs.Claims.{Typed, SameRoom}
-use Rattle.model.specs.Calls.{Call, Outcome, configRead, configWrite, barRead, barWrite, event, line, reset, save, next, changed, sends, refusal, accepted, step, startOf, startGiven, startedWorld, zeroWorld, restoreOf, Operation, call, start, restore, operate}
+use Rattle.model.specs.Calls.{Call, Outcome, save, next, sends, accepted, step, startOf, startGiven, startedWorld, restoreOf, Operation, call, start, restore, operate}
 use Rattle.model.specs.Trials.{worldAfter, outcomes, wroteBytes}
-use Rattle.model.proofs.WriteLaws.{length-written}
-use Rattle.model.proofs.TableLaws.{length-table}
-use Rattle.model.proofs.SweepLaws.{swept-only}
-use Rattle.model.proofs.SoundLaws.{Accepts, accepts, buffers-fit, Sound, is-sound}
-use Rattle.model.proofs.RaisedLaws.{raised-only}
-use Rattle.model.proofs.Refusals.{answered-elim, Passed, passed-all}
+use Rattle.model.proofs.Registers.TableLaws.{length-table}
+use Rattle.model.proofs.Vectors.SweepLaws.{swept-only}
+use Rattle.model.proofs.Sound.SoundLaws.{accepts, buffers-fit, is-sound}
+use Rattle.model.proofs.Vectors.RaisedLaws.{raised-only}
+use Rattle.model.proofs.Calls.CallLaws.{answered-elim, step-elim}
+use Rattle.model.proofs.Calls.Effects.{Effect, reads, saves, settles, raises, restarts, effect}
 use Rattle.model.proofs.ImageExact.{restored}
 
 -- ---- no call changes the lengths of the lent buffers
@@ -60,25 +54,16 @@ room-started u g ok t p wire =
       pending = length-replicate {A = ℕ} (pendingBytes (shapeOf (g .config))) 0 ∙ sym (b .1) ∙ p;
     }
 
-room-next : (w : World) (c : Call) → Passed w c → SameRoom (next w c) w
-unfolding next changed
-room-next w (configRead o n) p = room-refl w
-room-next w (configWrite o n x out) p = room-settled w _ refl refl
-room-next w (barRead b o n) p = room-refl w
-room-next w (barWrite b o n x out) p =
-    room-settled w _
-    (cond-elim (λ (l : List ℕ). length l ≡ length (w .endpoint .table)) (inTable (shape (w .endpoint)) b o)
-    (λ _. length-written entryWritable (w .endpoint .table) (o - shape (w .endpoint) .msix .table .at) (bytesOf n x)) (λ _. refl))
-    refl
-room-next w (event e out) p = room-settled w _ (ap length (raised-only (shape (w .endpoint)) (w .endpoint) e .table)) (raised-only (shape (w .endpoint)) (w .endpoint) e .pendingLength)
-room-next w (line level out) p = room-settled w _ refl refl
-room-next w (reset out) p = room-started (w .endpoint) (givenOf (w .endpoint)) (is-sound w (p .isSound) .endpoint .start) refl refl (w .wire)
-room-next w (save out) p = room-refl w
+room-effect : (w : World) → sound w ≡ true → {b : Bool} {v : World} {bytes : List ℕ} → Effect w b v bytes → SameRoom v w
+room-effect w k reads = room-refl w
+room-effect w k saves = room-refl w
+room-effect w k (settles u h) = room-settled w u (h .table) (h .pending)
+room-effect w k (raises e h) =
+    let only = raised-only (shape (w .endpoint)) (w .endpoint) e in room-settled w _ (ap length (only .table)) (only .pendingLength)
+room-effect w k restarts = room-started (w .endpoint) (givenOf (w .endpoint)) (is-sound w k .endpoint .start) refl refl (w .wire)
 
 room-step : (w : World) (c : Call) → SameRoom (step w c .world) w
-unfolding step
-room-step w c =
-    answered-elim (λ (r : Outcome). SameRoom (r .world) w) (refusal w c) _ _ (λ e. room-next w c (passed-all w c e)) (λ _. room-refl w)
+room-step w c = step-elim w c (λ (r : Outcome). SameRoom (r .world) w) (λ p. room-effect w (p .isSound) (effect w c p)) (λ _ _. room-refl w)
 
 -- of a restore that row 17 lets pass
 room-restored : (w : World) (image : List ℕ) → restoreRefusal image (length (w .endpoint .table)) (length (w .endpoint .pending)) ≡ 0 → SameRoom (worldIn image) w
@@ -97,10 +82,10 @@ room-operate : (w : World) (o : Operation) → SameRoom (operate w o .world) w
 unfolding startOf restoreOf
 room-operate w (call c) = room-step w c
 room-operate w (start config sizes events requester) =
-    answered-elim (λ (r : Outcome). SameRoom (r .world) w) _ _ _
+    answered-elim _ _ _ (λ (r : Outcome). SameRoom (r .world) w)
     (λ e. room-started (w .endpoint) (startGiven (w .endpoint) config sizes events requester) e refl refl (w .wire))
     (λ _. record { table = refl; pending = refl })
-room-operate w (restore image) = answered-elim (λ (r : Outcome). SameRoom (r .world) w) _ _ _ (room-restored w image) (λ _. room-refl w)
+room-operate w (restore image) = answered-elim _ _ _ (λ (r : Outcome). SameRoom (r .world) w) (room-restored w image) (λ _. room-refl w)
 
 pub room-after : (w : World) (os : List Operation) → SameRoom (worldAfter w os) w
 unfolding worldAfter
@@ -115,11 +100,11 @@ pub record Saved (w : World) (r : Outcome) : Type 0 where
   pub image : wroteBytes r ≡ imageOf w
 
 save-saved : (w : World) (out : List ℕ) → isAccepted (step w (save out) .answer) ≡ true → Saved w (step w (save out))
-unfolding step next sends wroteBytes isAccepted
+unfolding next sends wroteBytes isAccepted
 save-saved w out =
-    answered-elim (λ (r : Outcome). isAccepted (r .answer) ≡ true → Saved w r) (refusal w (save out)) _ _
-    (λ e _. record { isSound = passed-all w (save out) e .isSound; kept = refl; image = take-append-seam (imageOf w) _ })
-    (λ _ e. absurd (false≢true e))
+    step-elim w (save out) (λ (r : Outcome). isAccepted (r .answer) ≡ true → Saved w r)
+    (λ p _. record { isSound = p .isSound; kept = refl; image = take-append-seam (imageOf w) _ })
+    (λ _ _ e. absurd (false≢true e))
 
 -- ---- the theorem
 

@@ -1,9 +1,10 @@
 -- Demand 3, first part: a waiting bit is never lost, over every list of calls. Assumes nothing.
 use mathlib.Core.Path.{_≡_, refl, sym, _∙_}
 use mathlib.Core.Bool.{true, false, false≢true}
-use mathlib.Core.List.{List, []}
+use mathlib.Core.List.{List, [], _∷_}
 use mathlib.Core.Logic.{_↔_}
 use Prim.Native.Nat.{ℕ}
+use Rattle.words.proofs.BoolLaws.{neither, or-intro}
 use Rattle.model.specs.declared.Mode.{Mode}
 use Rattle.model.specs.declared.Mode.the-variants.{Pin, Msi, Msix}
 use Rattle.model.specs.declared.Shape.{Shape}
@@ -14,15 +15,15 @@ use Rattle.model.specs.Vectors.{waits}
 use Rattle.model.specs.Release.{isPin}
 use Rattle.model.specs.Start.{Given, startRefusal}
 use Rattle.model.specs.Calls.{Call, Outcome, startedWorld, startGiven, startOf, start, operate}
-use Rattle.model.specs.History.{Run, called, run, resets, openBy, heldBy, WaitsBy, isVector}
-use Rattle.model.proofs.Machine.{bit-iff}
-use Rattle.model.proofs.Refusals.{answered-elim}
-use Rattle.model.proofs.StartLaws.{started-sound, started-waits}
+use Rattle.model.specs.History.{Entry, Past, Run, called, run, resets, openBy, heldBy, clearedBy, WaitsBy, isVector}
+use Rattle.model.proofs.History.Machine.{bit-iff}
+use Rattle.model.proofs.Calls.CallLaws.{answered-elim}
+use Rattle.model.proofs.Sound.StartLaws.{started-sound, started-waits}
 use Rattle.model.proofs.SoundKept.{sound-kept}
-use Rattle.model.proofs.HistoryRegisters.{registers-none}
-use Rattle.model.proofs.HistoryCalls.{Good}
-use Rattle.model.proofs.HistoryReset.{started-registers}
-use Rattle.model.proofs.HistoryLaw.{call-law}
+use Rattle.model.proofs.History.HistoryRegisters.{registers-none}
+use Rattle.model.proofs.History.HistoryCalls.{Good}
+use Rattle.model.proofs.History.HistoryReset.{started-registers}
+use Rattle.model.proofs.History.HistoryLaw.{call-law}
 
 not-pin : (s : Shape) (m : Mode) (v : ℕ) → isVector s m v ≡ true → isPin m ≡ false
 unfolding isVector isPin
@@ -30,12 +31,19 @@ not-pin s Pin v e = absurd (false≢true e)
 not-pin s Msi v e = refl
 not-pin s Msix v e = refl
 
+-- the bit is not cleared: no accepted reset, and the vector is not left open
+cleared-not : (g : Given) (m : Mode) (v : ℕ) (x : Entry) (before : Past)
+    → (clearedBy g m v x before ≡ false) ↔ ((resets x ≡ false) × (openBy g (x ∷ before) m v ≡ false))
+unfolding clearedBy
+cleared-not g m v x before = (neither (resets x) (openBy g (x ∷ before) m v), λ p. or-intro (resets x) (openBy g (x ∷ before) m v) (p .0) (p .1))
+
 -- of a card just started
 from-start : (g : Given) → startRefusal g ≡ 0 → (calls : List Call) (m : Mode) (v : ℕ) → isPin m ≡ false
     → (waits m (run (startedWorld g) calls .world .endpoint) v ≡ true) ↔ WaitsBy g m v (run (startedWorld g) calls .past)
 unfolding run startedWorld
 from-start g ok calls m v p =
-    bit-iff called (λ r. r .past) (λ r. waits m (r .world .endpoint) v) (Good g) (heldBy g m v) resets (λ past. openBy g past m v)
+    bit-iff called (λ r. r .past) (λ r. waits m (r .world .endpoint) v) (Good g) (heldBy g m v) (clearedBy g m v)
+    (λ x before. (resets x ≡ false) × (openBy g (x ∷ before) m v ≡ false)) (λ x before. cleared-not g m v x before)
     (λ r c i. call-law g ok m v r i p c (sound-kept (r .world) c (i .isSound)))
     (record { world = startedWorld g; past = [] })
     (record { isSound = started-sound g ok; same = started-registers g ∙ sym (registers-none g) })
@@ -52,10 +60,9 @@ pub waiting-history : (w₀ : World) (config sizes : List ℕ) (events requester
     (waits m (r .world .endpoint) v ≡ true) ↔ WaitsBy g m v (r .past)
 unfolding startOf isAccepted
 waiting-history w₀ config sizes events requester a calls m v e =
-    answered-elim
+    answered-elim (startRefusal g) _ _
     (λ (o : Outcome).
     isAccepted (o .answer) ≡ true → (waits m (run (o .world) calls .world .endpoint) v ≡ true) ↔ WaitsBy g m v (run (o .world) calls .past))
-    (startRefusal g) _ _
     (λ z _. from-start g z calls m v (not-pin (shapeOf config) m v e))
     (λ z b. absurd (false≢true b)) a
   where

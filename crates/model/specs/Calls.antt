@@ -7,7 +7,6 @@ use lib.ListN.{length}
 use Rattle.words.specs.Lists.{firstOf}
 use Rattle.words.specs.Bytes.{bytesOf, number}
 use Rattle.words.specs.Writers.{over}
-use Rattle.model.specs.declared.Function.{Function}
 use Rattle.model.specs.declared.Shape.{Shape}
 use Rattle.model.specs.declared.Answer.{Answer}
 use Rattle.model.specs.declared.Answer.the-variants.{Refused, Done, Value}
@@ -146,27 +145,39 @@ outputOf (line level out) = out
 outputOf (reset out) = out
 outputOf (save out) = out
 
--- 6: output shorter than this call's packets or image
-unfoldable pub short : World → Call → Bool
-short w c = ltb (length (outputOf c)) (length (sends w c))
-
--- the refusal of a call, 0 if there is none. 1: card not sound
-unfoldable pub refusal : World → Call → ℕ
-refusal w c = firstOf ((1, not (sound w)) ∷ (rows (w .endpoint) c ++ ((6, short w c) ∷ [])))
-
--- the same without the row 6
-unfoldable pub earlierRefusal : World → Call → ℕ
-earlierRefusal w c = firstOf ((1, not (sound w)) ∷ rows (w .endpoint) c)
-
 -- refused with a number, or accepted where that is 0
 unfoldable pub answered : ℕ → (ifAccepted ifRefused : Outcome) → Outcome
 answered n ifAccepted ifRefused = cond (eqb n 0) ifAccepted ifRefused
 
+-- 6: output shorter than this call's packets or image; else accepted
+unfoldable pub ifRoom : World → (next : World) → Answer → (bytes out : List ℕ) → Outcome
+ifRoom w next answer bytes out = cond (ltb (length out) (length bytes)) (refused w 6 out) (accepted next answer bytes out)
+
+-- a changed function u of shape s on the card w: the wire's packet and the open waiting vectors'
+abbrev pub settleOf : World → Shape → Endpoint → (out : List ℕ) → Outcome
+settleOf w s u out = ifRoom w (settled s u) Done (settleBytes s (w .wire) u) out
+
+-- an event on the card w, whose wire it leaves
+abbrev pub raiseOf : World → Raised → (out : List ℕ) → Outcome
+raiseOf w r out = ifRoom w (record { endpoint = r .endpoint; wire = w .wire }) (r .answer) (r .bytes) out
+
+-- what a call does to a sound card: refused by the first of its own rows that applies, or 6, or accepted
+unfoldable pub performed : World → Call → Outcome
+performed w c =
+    answered (firstOf (rows (w .endpoint) c))
+    (ifRoom w (next w c) (answerOf (w .endpoint) c) (sends w c) (outputOf c))
+    (refused w (firstOf (rows (w .endpoint) c)) (outputOf c))
+
+-- 1: card not sound
 unfoldable pub step : World → Call → Outcome
-step w c =
-    answered (refusal w c)
-    (accepted (next w c) (answerOf (w .endpoint) c) (sends w c) (outputOf c))
-    (refused w (refusal w c) (outputOf c))
+step w c = cond (sound w) (performed w c) (refused w 1 (outputOf c))
+
+-- the refusals of a running card as one table, without and with the row 6: the number of the first row that applies, 0 if none does
+unfoldable pub earlierRefusal : World → Call → ℕ
+earlierRefusal w c = firstOf ((1, not (sound w)) ∷ rows (w .endpoint) c)
+
+unfoldable pub refusal : World → Call → ℕ
+refusal w c = firstOf ((1, not (sound w)) ∷ (rows (w .endpoint) c ++ ((6, ltb (length (outputOf c)) (length (sends w c))) ∷ [])))
 
 -- ---- start and restore
 

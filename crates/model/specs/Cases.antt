@@ -1,13 +1,13 @@
 -- Document 01, "Bench cases", as tables of calls, and cases for the errors that tempt. Assumes nothing.
-use mathlib.Core.Bool.{Bool, true, false, _&&_}
+use mathlib.Core.Bool.{Bool, true, false}
 use mathlib.Core.List.{List, [], _∷_, _++_}
 use Prim.Native.Nat.{ℕ, suc, _+_, _-_, _*_}
 use lib.ListN.{set, replicate}
 use Rattle.words.specs.Bytes.{bytesOf}
 use Rattle.model.specs.declared.Answer.{Answer}
 use Rattle.model.specs.declared.Answer.the-variants.{Refused, Done, Value, Sent, Held, Merged}
-use Rattle.model.specs.Calls.{configRead, configWrite, barRead, barWrite, event, line, reset, save}
-use Rattle.model.specs.Play.{Expect, Case, Played, fresh, played, playedAll, begun, allPass, imageTaken, sameImage}
+use Rattle.model.specs.Calls.{call, start, configRead, configWrite, barRead, barWrite, event, line, reset, save}
+use Rattle.model.specs.Play.{Step, lends, does, keeps, compares, fresh}
 
 -- ---- configurations
 
@@ -42,56 +42,60 @@ sizesOf a b = a ∷ b ∷ 0 ∷ 0 ∷ 0 ∷ 0 ∷ []
 
 -- ---- calls, each over an output of 64 bytes or as said
 
-abbrev pub writes : (offset width value : ℕ) (bytes : List ℕ) → Expect
-writes o n x bytes = record { call = configWrite o n x (fresh 64); bytes = bytes; answer = Done }
+-- buffers for n vectors, and a start with requester 0100h
+abbrev pub starts : (config sizes : List ℕ) (events n : ℕ) → Answer → List Step
+starts config sizes events n answer = lends n ∷ does (start config sizes events 0x100) [] answer ∷ []
+
+abbrev pub writes : (offset width value : ℕ) (bytes : List ℕ) → Step
+writes o n x bytes = does (call (configWrite o n x (fresh 64))) bytes Done
 
 -- four bytes of BAR 0
-abbrev pub stores : (offset value : ℕ) (bytes : List ℕ) → Expect
-stores o x bytes = record { call = barWrite 0 o 4 x (fresh 64); bytes = bytes; answer = Done }
+abbrev pub stores : (offset value : ℕ) (bytes : List ℕ) → Step
+stores o x bytes = does (call (barWrite 0 o 4 x (fresh 64))) bytes Done
 
-abbrev pub raises : (number room : ℕ) → Answer → (bytes : List ℕ) → Expect
-raises e room answer bytes = record { call = event e (fresh room); bytes = bytes; answer = answer }
+abbrev pub raises : (number room : ℕ) → Answer → (bytes : List ℕ) → Step
+raises e room answer bytes = does (call (event e (fresh room))) bytes answer
 
-abbrev pub drives : Bool → (bytes : List ℕ) → Expect
-drives level bytes = record { call = line level (fresh 64); bytes = bytes; answer = Done }
+abbrev pub drives : Bool → (bytes : List ℕ) → Step
+drives level bytes = does (call (line level (fresh 64))) bytes Done
 
-abbrev pub readsConfig : (offset width value : ℕ) → Expect
-readsConfig o n x = record { call = configRead o n; bytes = []; answer = Value x }
+abbrev pub readsConfig : (offset width value : ℕ) → Step
+readsConfig o n x = does (call (configRead o n)) [] (Value x)
 
 -- eight bytes of BAR 0
-abbrev pub readsBar : (offset value : ℕ) → Expect
-readsBar o x = record { call = barRead 0 o 8; bytes = []; answer = Value x }
+abbrev pub readsBar : (offset value : ℕ) → Step
+readsBar o x = does (call (barRead 0 o 8)) [] (Value x)
 
-abbrev pub resets : (bytes : List ℕ) → Expect
-resets bytes = record { call = reset (fresh 64); bytes = bytes; answer = Done }
+abbrev pub resets : (bytes : List ℕ) → Step
+resets bytes = does (call (reset (fresh 64))) bytes Done
 
-abbrev pub saves : (room : ℕ) (bytes : List ℕ) → Expect
-saves room bytes = record { call = save (fresh room); bytes = bytes; answer = Done }
+abbrev pub saves : (room : ℕ) (bytes : List ℕ) → Step
+saves room bytes = does (call (save (fresh room))) bytes Done
 
 -- ---- groups of calls
 
-abbrev pub command : ℕ → Expect
+abbrev pub command : ℕ → Step
 command x = writes 0x04 2 x []
 
 -- Message Control of the capability at 40h
-abbrev pub control : ℕ → (bytes : List ℕ) → Expect
+abbrev pub control : ℕ → (bytes : List ℕ) → Step
 control x bytes = writes 0x42 2 x bytes
 
 -- entry v of the table: address FEE01000h, upper address 1, data
-abbrev pub entry : (v value : ℕ) → List Expect
+abbrev pub entry : (v value : ℕ) → List Step
 entry v value = stores (16 * v) 0xfee01000 [] ∷ stores (16 * v + 4) 1 [] ∷ stores (16 * v + 8) value [] ∷ []
 
 -- the mask bit of entry v cleared
-abbrev pub unmask : ℕ → (bytes : List ℕ) → Expect
+abbrev pub unmask : ℕ → (bytes : List ℕ) → Step
 unmask v bytes = stores (16 * v + 12) 0 bytes
 
 -- MSI on with address FEE00000h, this data register and this Enable; bus mastering on
-abbrev pub msiSteps : (value enable : ℕ) → List Expect
+abbrev pub msiSteps : (value enable : ℕ) → List Step
 msiSteps value enable =
     command 0x0004 ∷ writes 0x44 4 0xfee00000 [] ∷ writes 0x48 2 value [] ∷ control (16 * enable + 1) [] ∷ []
 
 -- one MSI-X vector with data 31h and mask 0
-abbrev pub oneVector : ℕ → List Expect
+abbrev pub oneVector : ℕ → List Step
 oneVector x = command x ∷ entry 0 0x31 ++ (unmask 0 [] ∷ [])
 
 -- ---- packets
@@ -107,95 +111,95 @@ wirePacket code = 0x34 ∷ 0 ∷ 0 ∷ 0 ∷ 1 ∷ 0 ∷ 0 ∷ code ∷ 0 ∷ 0 
 
 -- ---- kinds of cases
 
-abbrev pub msiCase : (events value enable : ℕ) → List Expect → Case
-msiCase events value enable steps =
-    record { config = msiCard; sizes = sizesOf 0 0; events = events; vectors = 0; steps = msiSteps value enable ++ steps }
+abbrev pub startCase : (config sizes : List ℕ) (events n : ℕ) → List Step → List Step
+startCase config sizes events n steps = starts config sizes events n Done ++ steps
+
+abbrev pub msiCase : (events value enable : ℕ) → List Step → List Step
+msiCase events value enable steps = startCase msiCard (sizesOf 0 0) events 0 (msiSteps value enable ++ steps)
 
 -- the table at the start of BAR 0, the pending array at 1000h of it, and as many events as vectors
-abbrev pub msixCase : ℕ → List Expect → Case
-msixCase n steps =
-    record { config = msixCard 0 n 0 0x1000; sizes = sizesOf 0x2000 0; events = n; vectors = n; steps = steps }
+abbrev pub msixCase : ℕ → List Step → List Step
+msixCase n steps = startCase (msixCard 0 n 0 0x1000) (sizesOf 0x2000 0) n n steps
 
-abbrev pub plainCase : (pin : ℕ) → List Expect → Case
-plainCase pin steps = record { config = header pin; sizes = sizesOf 0 0; events = 1; vectors = 0; steps = steps }
+abbrev pub plainCase : (pin : ℕ) → List Step → List Step
+plainCase pin steps = startCase (header pin) (sizesOf 0 0) 1 0 steps
 
 -- ---- cases 1 to 11
 
-abbrev pub case1 : Case
+abbrev pub case1 : List Step
 case1 = msiCase 4 0x49a0 2 (raises 1 40 Sent (message32 0xa1 0x49) ∷ [])
 
-abbrev pub case2 : Case
+abbrev pub case2 : List Step
 case2 = msiCase 4 0x49a3 2 (raises 1 40 Sent (message32 0xa1 0x49) ∷ [])
 
-abbrev pub case3 : Case
+abbrev pub case3 : List Step
 case3 = msiCase 8 0x49a0 2 (raises 5 40 Sent (message32 0xa1 0x49) ∷ [])
 
-abbrev pub case4 : Case
+abbrev pub case4 : List Step
 case4 = msiCase 8 0x0040 3 (raises 5 40 Sent (message32 0x45 0) ∷ [])
 
-abbrev pub case5 : Case
+abbrev pub case5 : List Step
 case5 = msixCase 1 (oneVector 0x0006 ++ (control 0x8000 [] ∷ raises 0 40 Sent (message64 0x31) ∷ []))
 
-abbrev pub case6 : Case
+abbrev pub case6 : List Step
 case6 =
     plainCase 1
     (command 0x0004 ∷ drives true (wirePacket 0x20) ∷ readsConfig 0x06 2 0x0008 ∷ drives false (wirePacket 0x24) ∷ [])
 
-abbrev pub case7 : Case
+abbrev pub case7 : List Step
 case7 =
     msixCase 4
     (command 0x0006 ∷ entry 3 0x33
     ++ (control 0x8000 [] ∷ raises 3 40 Held [] ∷ raises 3 40 Merged [] ∷ readsBar 0x1000 0x08 ∷ unmask 3 (message64 0x33)
     ∷ readsBar 0x1000 0 ∷ []))
 
-abbrev pub case8 : Case
+abbrev pub case8 : List Step
 case8 =
     msixCase 10
     (command 0x0006 ∷ entry 2 0x32 ++ entry 9 0x39
     ++ (unmask 2 [] ∷ unmask 9 [] ∷ control 0xc000 [] ∷ raises 9 40 Held [] ∷ raises 2 40 Held []
     ∷ control 0x8000 (message64 0x32 ++ message64 0x39) ∷ []))
 
-abbrev pub case9 : Case
+abbrev pub case9 : List Step
 case9 =
     msixCase 1 (oneVector 0x0002 ++ (control 0x8000 [] ∷ raises 0 40 Held [] ∷ writes 0x04 2 0x0006 (message64 0x31) ∷ []))
 
-abbrev pub case10 : Case
+abbrev pub case10 : List Step
 case10 =
     msixCase 1
     (oneVector 0x0006
     ++ (control 0xc000 [] ∷ raises 0 40 Held [] ∷ control 0x0000 [] ∷ drives true (wirePacket 0x20)
     ∷ control 0x8000 (wirePacket 0x24 ++ message64 0x31) ∷ []))
 
-abbrev pub case11 : Case
+abbrev pub case11 : List Step
 case11 = plainCase 0 (saves 300 (0x49 ∷ 0x52 ∷ 0x51 ∷ 1 ∷ 0 ∷ 0 ∷ 1 ∷ 0 ∷ 0 ∷ 1 ∷ replicate 284 0) ∷ [])
 
-abbrev pub starredCases : List Case
+abbrev pub starredCases : List (List Step)
 starredCases =
     case1 ∷ case2 ∷ case3 ∷ case4 ∷ case5 ∷ case6 ∷ case7 ∷ case8 ∷ case9 ∷ case10 ∷ case11 ∷ []
 
 -- ---- cases 12 and 13
 
-abbrev pub lastEvent : Case
-lastEvent = msiCase 8 0x49a0 2 (raises 7 40 Sent (message32 0xa3 0x49) ∷ raises 8 40 (Refused 2) [] ∷ [])
-
-abbrev pub shortOutput : Case
-shortOutput = msiCase 4 0x49a0 2 (raises 1 15 (Refused 6) [] ∷ raises 1 16 Sent (message32 0xa1 0x49) ∷ [])
-
--- the card of case 1 before the event, and whether an event over 15 bytes leaves it as it was, by its images before and after
-abbrev pub caseOneCard : Played
-caseOneCard = playedAll (begun msiCard (sizesOf 0 0) 4 0 Done) (msiSteps 0x49a0 2)
-
-abbrev pub shortKeeps : Bool
-shortKeeps = sameImage (imageTaken (caseOneCard .world)) (imageTaken (played caseOneCard (raises 1 15 (Refused 6) []) .world))
+-- event E - 1 and event E; then the card of case 1 with outputs of 15 and 16 bytes, and its images before and after the first
+abbrev pub case12 : List Step
+case12 =
+    msiCase 8 0x49a0 2 (raises 7 40 Sent (message32 0xa3 0x49) ∷ raises 8 40 (Refused 2) [] ∷ [])
+    ++ msiCase 4 0x49a0 2
+    (keeps ∷ raises 1 15 (Refused 6) [] ∷ compares ∷ raises 1 16 Sent (message32 0xa1 0x49) ∷ [])
 
 -- a table of 64 bytes from 40h of BAR 0 on, and a pending array that fills BAR 1
-abbrev pub tableEnds : (size : ℕ) → Answer → Played
-tableEnds size answer = begun (msixCard 0 4 0x40 1) (sizesOf size 8) 4 4 answer
+abbrev pub tableEnds : (size : ℕ) → Answer → List Step
+tableEnds size answer = starts (msixCard 0 4 0x40 1) (sizesOf size 8) 4 4 answer
 
-unfoldable pub limits : Bool
-limits =
-    allPass (lastEvent ∷ shortOutput ∷ []) && shortKeeps && tableEnds 0x80 Done .good
-    && tableEnds 0x78 (Refused 14) .good
+abbrev pub case13 : List Step
+case13 = tableEnds 0x80 Done ++ tableEnds 0x78 (Refused 14)
+
+abbrev pub limitCases : List (List Step)
+limitCases = case12 ∷ case13 ∷ []
+
+-- the bench cases in the order of their numbers
+abbrev pub benchCases : List (List Step)
+benchCases = starredCases ++ limitCases
 
 -- ---- for the errors that tempt
 
@@ -205,7 +209,7 @@ bothCard = put 0x50 (bytesOf 4 0x00060005) (msixCard 0x50 2 0 0x1000)
 
 -- the wire with bus mastering off; what a reset leaves of a waiting vector; MSI-X over MSI with both on; a 64-bit form's data at 0Ch, its masks at 10h
 -- and its waiting bits shown at 14h
-unfoldable pub temptingCases : List Case
+unfoldable pub temptingCases : List (List Step)
 temptingCases =
     plainCase 1
     (drives true (wirePacket 0x20) ∷ command 0x0004 ∷ readsConfig 0x06 2 0x0008 ∷ resets (wirePacket 0x24)
@@ -213,23 +217,11 @@ temptingCases =
     ∷ msixCase 1
     (command 0x0006 ∷ unmask 0 [] ∷ control 0xc000 [] ∷ raises 0 40 Held [] ∷ resets [] ∷ command 0x0006 ∷ unmask 0 []
     ∷ control 0x8000 [] ∷ [])
-    ∷ record {
-      config = bothCard;
-      sizes = sizesOf 0x2000 0;
-      events = 2;
-      vectors = 2;
-      steps =
-          command 0x0006 ∷ entry 1 0x31
-          ++ (unmask 1 [] ∷ writes 0x52 2 1 [] ∷ control 0x8000 [] ∷ raises 1 40 Sent (message64 0x31) ∷ []);
-    }
-    ∷ record {
-      config = wideMsiCard;
-      sizes = sizesOf 0 0;
-      events = 4;
-      vectors = 0;
-      steps =
-          writes 0x44 4 0xfee01000 [] ∷ writes 0x48 4 1 [] ∷ writes 0x4c 2 0x30 [] ∷ writes 0x50 4 0xffffffff []
-          ∷ readsConfig 0x50 4 0xff ∷ control 0x11 [] ∷ command 0x0004 ∷ raises 3 40 Held [] ∷ readsConfig 0x54 4 2
-          ∷ writes 0x50 1 0 (message64 0x31) ∷ readsConfig 0x54 4 0 ∷ [];
-    }
+    ∷ startCase bothCard (sizesOf 0x2000 0) 2 2
+    (command 0x0006 ∷ entry 1 0x31
+    ++ (unmask 1 [] ∷ writes 0x52 2 1 [] ∷ control 0x8000 [] ∷ raises 1 40 Sent (message64 0x31) ∷ []))
+    ∷ startCase wideMsiCard (sizesOf 0 0) 4 0
+    (writes 0x44 4 0xfee01000 [] ∷ writes 0x48 4 1 [] ∷ writes 0x4c 2 0x30 [] ∷ writes 0x50 4 0xffffffff []
+    ∷ readsConfig 0x50 4 0xff ∷ control 0x11 [] ∷ command 0x0004 ∷ raises 3 40 Held [] ∷ readsConfig 0x54 4 2
+    ∷ writes 0x50 1 0 (message64 0x31) ∷ readsConfig 0x54 4 0 ∷ [])
     ∷ []

@@ -1,7 +1,7 @@
 -- Document 01, "What demand 3 compares": registers, open vectors and waiting bits by the start's input and the calls with their answers.
 -- No card is read here. Assumes nothing.
 use mathlib.Core.Path.{_≡_}
-use mathlib.Core.Bool.{Bool, true, false, not, cond, _&&_}
+use mathlib.Core.Bool.{Bool, true, false, not, cond, _&&_, _||_}
 use mathlib.Core.List.{List, [], _∷_, foldl}
 use mathlib.Core.Logic.{_⊎_}
 use mathlib.Core.Option.{Option, none, some, Option·getD, Option·map}
@@ -22,13 +22,15 @@ use Rattle.model.specs.World.{World, Registers}
 use Rattle.model.specs.Vectors.{inForce, isOpen, vectorOf}
 use Rattle.model.specs.Start.{Given}
 use Rattle.model.specs.Calls.{Call, configRead, configWrite, barRead, barWrite, event, line, reset, save, Outcome, step}
+use Rattle.model.specs.Trials.{wroteBytes}
 use Rattle.model.specs.Since.{Since, Every}
 
--- ---- a past: the calls with their answers, the latest first
+-- ---- a past: the calls with their answers and the bytes that they wrote, the latest first
 
 pub record Entry : Type 0 where
   pub call : Call
   pub answer : Answer
+  pub bytes : List ℕ
 
 abbrev pub Past : Type 0
 Past = List Entry
@@ -42,7 +44,7 @@ pub record Run : Type 0 where
 unfoldable pub called : Run → Call → Run
 called r c =
     let o : Outcome = step (r .world) c in
-    record { world = o .world; past = record { call = c; answer = o .answer } ∷ r .past }
+    record { world = o .world; past = record { call = c; answer = o .answer; bytes = wroteBytes o } ∷ r .past }
 
 -- a list of calls on a world with no past
 unfoldable pub run : World → List Call → Run
@@ -170,6 +172,10 @@ isEventFor g past m v (save out) = false
 -- an accepted event for the vector came while its mechanism was in force and the vector was shut, by the bits just before it
 unfoldable pub heldBy : Given → Mode → ℕ → Entry → Past → Bool
 heldBy g m v x before = isAccepted (x .answer) && isEventFor g before m v (x .call) && not (openBy g before m v)
+
+-- an accepted reset clears the bit, and so does every call after which the vector is open, by the bits just after that call
+unfoldable pub clearedBy : Given → Mode → ℕ → Entry → Past → Bool
+clearedBy g m v x before = resets x || openBy g (x ∷ before) m v
 
 -- such an event came, and since then there was no accepted reset and no call left the vector open, by the bits just after that call
 abbrev pub WaitsBy : Given → Mode → ℕ → Past → Type 0

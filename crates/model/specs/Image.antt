@@ -1,12 +1,13 @@
 -- Document 01, "Saved images": the bytes, and the checks of a restore. Assumes nothing.
-use mathlib.Core.Bool.{Bool, true, false, not, _&&_, _||_}
+use mathlib.Core.Bool.{Bool, not, _&&_, _||_}
 use mathlib.Core.List.{List, [], _∷_, _++_}
-use Prim.Native.Nat.{ℕ, _+_, _*_}
+use Prim.Native.Nat.{ℕ, _+_, _-_, _*_}
 use lib.Dec.{ltb, eqb}
 use lib.ListN.{length, take, drop}
 use Rattle.words.specs.Lists.{join, same, firstOf}
 use Rattle.words.specs.Bits.{bit, ofBool}
 use Rattle.words.specs.Bytes.{byte, part, word16, word32, words32, bytesOf}
+use Rattle.model.specs.declared.Card.{Card}
 use Rattle.model.specs.declared.Function.{Function}
 use Rattle.model.specs.Shape.{shapeOf, tableBytes}
 use Rattle.model.specs.World.{World, functionOf, endpointOf}
@@ -36,8 +37,18 @@ imageOf w = mark ++ bytesOf 2 1 ++ cardBytes w ++ w .endpoint .table ++ w .endpo
 
 -- ---- what an image of at least 294 bytes holds
 
-unfoldable pub functionIn : List ℕ → Function
-functionIn l = functionOf (part 38 256 l) (words32 6 (drop 14 l)) (word16 l 6) (word16 l 8) (bit (byte l 5) 0) (word32 l 10)
+-- the function in bytes that start at offset `first` of an image: 0 for a whole image, 5 for a card's bytes
+unfoldable pub functionFrom : (first : ℕ) → List ℕ → Function
+functionFrom first l =
+    functionOf (part (38 - first) 256 l) (words32 6 (drop (14 - first) l)) (word16 l (6 - first)) (word16 l (8 - first)) (bit (byte l (5 - first)) 0)
+    (word32 l (10 - first))
+
+abbrev pub functionIn : List ℕ → Function
+functionIn l = functionFrom 0 l
+
+-- the card in its 289 bytes, from the flags to the last configuration byte; flag bits above bit 1 are ignored
+unfoldable pub cardIn : List ℕ → Card
+cardIn l = record { function = functionFrom 5 l; wire = bit (byte l 0) 1 }
 
 unfoldable pub worldIn : List ℕ → World
 worldIn l =

@@ -12,9 +12,9 @@ pub mod Fit
 pub mod Ready
 pub mod Image
 pub mod Calls
+pub mod Trials
 pub mod Since
 pub mod History
 pub mod Claims
-pub mod Trials
 pub mod Play
 pub mod Cases

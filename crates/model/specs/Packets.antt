@@ -1,11 +1,10 @@
 -- Document 01, "Packets", as bytes. Assumes nothing.
-use mathlib.Core.Bool.{Bool, true, false, cond}
+use mathlib.Core.Bool.{Bool, cond}
 use mathlib.Core.List.{List, [], _∷_, _++_}
 use Prim.Native.Nat.{ℕ, _+_, _*_, _/_}
 use lib.Dec.{eqb}
 use lib.ListN.{replicate}
 use Rattle.words.specs.Bytes.{word16, word32, bytesOf, bytesHigh}
-use Rattle.model.specs.declared.Form.{Form}
 use Rattle.model.specs.declared.Shape.{Shape}
 use Rattle.model.specs.declared.Mode.{Mode}
 use Rattle.model.specs.declared.Mode.the-variants.{Pin, Msi, Msix}
@@ -49,10 +48,13 @@ msiData s r = word16 (r .config) (s .msi .at + formOf s .message)
 
 -- ---- the message of vector v, by the registers as they are
 
+-- the words of entry v of an MSI-X table: address, upper address, data
+unfoldable pub entryMessage : (requester : ℕ) → List ℕ → ℕ → List ℕ
+entryMessage requester table v = message requester (word32 table (16 * v + 4)) (word32 table (16 * v)) (word32 table (16 * v + 8))
+
 -- MSI: the low log2(granted) bits of the data register are replaced by v. MSI-X: the entry's words
 unfoldable pub messageOf : Mode → Shape → (requester : ℕ) → Registers → ℕ → List ℕ
 messageOf Pin s requester r v = []
 messageOf Msi s requester r v =
     message requester (msiUpper s r) (msiAddress s r) (msiData s r / granted s r * granted s r + v)
-messageOf Msix s requester r v =
-    message requester (word32 (r .table) (16 * v + 4)) (word32 (r .table) (16 * v)) (word32 (r .table) (16 * v + 8))
+messageOf Msix s requester r v = entryMessage requester (r .table) v

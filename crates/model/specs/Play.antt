@@ -1,4 +1,4 @@
--- How a bench case is played: a start, then calls in order, each with what it should give. Assumes nothing.
+-- How a bench case is played: steps in order, most of them a call with what it should give. Assumes nothing.
 use mathlib.Core.Bool.{Bool, true, false, _&&_}
 use mathlib.Core.List.{List, [], _∷_}
 use Prim.Native.Nat.{ℕ, _+_, _*_, _/_}
@@ -9,21 +9,15 @@ use Rattle.words.specs.Writers.{over}
 use Rattle.model.specs.declared.Answer.{Answer}
 use Rattle.model.specs.declared.Answer.the-variants.{Refused, Done, Value, Sent, Held, Merged, Lost}
 use Rattle.model.specs.World.{World, zeroFunction, endpointOf}
-use Rattle.model.specs.Calls.{Call, Outcome, operate, step, outputOf, start, save}
+use Rattle.model.specs.Calls.{Operation, Outcome, operate, outputOf, step, call, start, restore, save}
 
--- a call with the output lent to it, the bytes that it should send and its answer
-pub record Expect : Type 0 where
-  pub call : Call
-  pub bytes : List ℕ
-  pub answer : Answer
-
--- what a card is started with, its N, and the calls after the start in order
-pub record Case : Type 0 where
-  pub config : List ℕ
-  pub sizes : List ℕ
-  pub events : ℕ
-  pub vectors : ℕ
-  pub steps : List Expect
+-- a step of a case: buffers for n vectors are lent to the card; a call with its output, the bytes that it should send and its answer; a card
+-- without MSI-X is saved and its image kept; it is saved again, and its image should be the one that was kept
+pub data Step : Type 0 where
+  lends : (n : ℕ) → Step
+  does : Operation → (bytes : List ℕ) → Answer → Step
+  keeps : Step
+  compares : Step
 
 -- ---- answers
 
@@ -61,41 +55,48 @@ unfoldable pub right : Outcome → Answer → (bytes out : List ℕ) → Bool
 right r answer bytes out =
     sameAnswer (r .answer) answer && eqb (r .count) (length bytes) && same (r .output) (over bytes out)
 
--- a card with its lent buffers, and whether every call so far gave what it should
+-- a card with its lent buffers, the image that was kept, and whether every step so far gave what it should
 pub record Played : Type 0 where
   pub world : World
+  pub image : List ℕ
   pub good : Bool
 
-unfoldable pub played : Played → Expect → Played
-played p x =
-    let r : Outcome = step (p .world) (x .call) in
-    record { world = r .world; good = p .good && right r (x .answer) (x .bytes) (outputOf (x .call)) }
+-- no card yet, and no buffers
+abbrev pub unplayed : Played
+unplayed = record { world = record { endpoint = endpointOf zeroFunction [] []; wire = false }; image = fresh 294; good = true }
 
-unfoldable pub playedAll : Played → List Expect → Played
-playedAll p [] = p
-playedAll p (x ∷ l) = playedAll (played p x) l
-
--- lent buffers for n vectors
-abbrev pub lent : ℕ → World
-lent n = record { endpoint = endpointOf zeroFunction (fresh (16 * n)) (fresh (8 * ((n + 63) / 64))); wire = false }
-
--- a start with requester 0100h that should answer so
-unfoldable pub begun : (config sizes : List ℕ) (events vectors : ℕ) → Answer → Played
-begun config sizes events vectors answer =
-    let r : Outcome = operate (lent vectors) (start config sizes events 0x100) in
-    record { world = r .world; good = right r answer [] [] }
-
-unfoldable pub passes : Case → Bool
-passes k = playedAll (begun (k .config) (k .sizes) (k .events) (k .vectors) Done) (k .steps) .good
-
-unfoldable pub allPass : List Case → Bool
-allPass [] = true
-allPass (k ∷ l) = passes k && allPass l
+-- the output of a call
+abbrev pub lentOutput : Operation → List ℕ
+lentOutput (call c) = outputOf c
+lentOutput (start config sizes events requester) = []
+lentOutput (restore image) = []
 
 -- the image of a card without MSI-X
 abbrev pub imageTaken : World → Outcome
 imageTaken w = step w (save (fresh 294))
 
--- two images are there, whole, and equal
-abbrev pub sameImage : (a b : Outcome) → Bool
-sameImage a b = eqb (a .count) 294 && eqb (b .count) 294 && same (a .output) (b .output)
+unfoldable pub played : Played → Step → Played
+played p (lends n) =
+    let u = endpointOf (p .world .endpoint .function) (fresh (16 * n)) (fresh (8 * ((n + 63) / 64))) in
+    record { world = record { endpoint = u; wire = p .world .wire }; image = p .image; good = p .good }
+played p (does o bytes answer) =
+    let r : Outcome = operate (p .world) o in
+    record { world = r .world; image = p .image; good = p .good && right r answer bytes (lentOutput o) }
+played p keeps =
+    let r : Outcome = imageTaken (p .world) in
+    record { world = r .world; image = r .output; good = p .good && eqb (r .count) 294 }
+played p compares =
+    let r : Outcome = imageTaken (p .world) in
+    record { world = r .world; image = p .image; good = p .good && (eqb (r .count) 294 && same (r .output) (p .image)) }
+
+unfoldable pub playedAll : Played → List Step → Played
+playedAll p [] = p
+playedAll p (x ∷ l) = playedAll (played p x) l
+
+-- a case is the list of its steps
+unfoldable pub passes : List Step → Bool
+passes steps = playedAll unplayed steps .good
+
+unfoldable pub allPass : List (List Step) → Bool
+allPass [] = true
+allPass (k ∷ l) = passes k && allPass l

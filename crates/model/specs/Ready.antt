@@ -3,7 +3,6 @@ use mathlib.Core.Path.{_≡_}
 use mathlib.Core.Bool.{true, false}
 use Prim.Native.Nat.{ℕ, _^_, _≤_, _<_}
 use Rattle.model.specs.declared.Mode.the-variants.{Msix}
-use Rattle.model.specs.declared.Mode.{Mode}
 use Rattle.model.specs.declared.Shape.{Shape}
 use Rattle.model.specs.Shape.{msiVectors}
 use Rattle.model.specs.Registers.{storedZero, entryZero}

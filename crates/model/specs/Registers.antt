@@ -1,6 +1,6 @@
 -- Document 01, "Registers": which bits are writable, which are stored as 0, what a read shows and a write changes. A bit mask for each byte.
 -- Assumes nothing.
-use mathlib.Core.Bool.{Bool, true, false, cond, _&&_}
+use mathlib.Core.Bool.{Bool, true, cond, _&&_}
 use mathlib.Core.List.{List, [], _∷_, _++_}
 use Prim.Native.Nat.{ℕ, zero, suc, _+_, _-_, _*_, _%_, _^_}
 use lib.Dec.{ltb, eqb}
@@ -8,7 +8,6 @@ use lib.ListN.{set, replicate}
 use Rattle.words.specs.Lists.{within, firstOf, eachAt}
 use Rattle.words.specs.Bits.{clear, merge, ofBool}
 use Rattle.words.specs.Bytes.{byte, bytesOf}
-use Rattle.model.specs.declared.Form.{Form}
 use Rattle.model.specs.declared.Region.{Region}
 use Rattle.model.specs.declared.Shape.{Shape}
 use Rattle.model.specs.Shape.{formOf, msiPresent, msixPresent, tableBytes, pendingBytes}

@@ -27,8 +27,12 @@ isPin Msi = false
 isPin Msix = false
 
 -- the line is high, the pin is in force, pin number is not 0 and Command bit 10 is 0
+unfoldable pub levelDue : (line : Bool) → Mode → (pin : ℕ) (disabled : Bool) → Bool
+levelDue line m pin disabled = line && isPin m && not (eqb pin 0) && not disabled
+
+-- by the registers
 unfoldable pub wireDue : Shape → (line : Bool) → Registers → Bool
-wireDue s line r = line && isPin (modeOf s r) && not (eqb (pinNumber r) 0) && not (commandBit r 10)
+wireDue s line r = levelDue line (modeOf s r) (pinNumber r) (commandBit r 10)
 
 -- the packet of a change of level
 unfoldable pub wireChange : (requester : ℕ) → Registers → (before after : Bool) → List ℕ
@@ -40,15 +44,22 @@ unfoldable pub clearAll : Mode → Endpoint → List ℕ → Endpoint
 clearAll m u [] = u
 clearAll m u (v ∷ l) = clearAll m (changeWaiting clearBit m u v) l
 
+-- of the mechanism m: the function with the waiting bits of its owed vectors cleared, and their messages, the lowest-numbered vector first
+unfoldable pub sweptFor : Mode → Shape → Endpoint → Endpoint
+sweptFor m s u = clearAll m u (owed m s u)
+
+unfoldable pub bytesFor : Mode → Shape → Endpoint → List ℕ
+bytesFor m s u = join (messageOf m s (u .function .requester) (registers u)) (owed m s u)
+
+-- of the mechanism in force
 unfoldable pub owedNow : Shape → Endpoint → List ℕ
 owedNow s u = owed (modeOf s (registers u)) s u
 
 unfoldable pub swept : Shape → Endpoint → Endpoint
-swept s u = clearAll (modeOf s (registers u)) u (owedNow s u)
+swept s u = sweptFor (modeOf s (registers u)) s u
 
--- the lowest-numbered vector goes first
 unfoldable pub sweepBytes : Shape → Endpoint → List ℕ
-sweepBytes s u = join (messageOf (modeOf s (registers u)) s (u .function .requester) (registers u)) (owedNow s u)
+sweepBytes s u = bytesFor (modeOf s (registers u)) s u
 
 -- ---- after an accepted write, line call or event: first the wire, then the vectors
 

@@ -1,12 +1,11 @@
 -- Document 01, "Starting a card": the checks 10 to 17, and the function that a start gives. Assumes nothing.
-use mathlib.Core.Bool.{Bool, true, false, not, _&&_, _||_}
+use mathlib.Core.Bool.{Bool, false, not, _&&_, _||_}
 use mathlib.Core.List.{List, [], _∷_}
-use Prim.Native.Nat.{ℕ, _+_, _*_, _%_}
+use Prim.Native.Nat.{ℕ, _+_, _%_}
 use lib.Dec.{ltb, eqb}
 use lib.ListN.{length, replicate}
 use Rattle.words.specs.Lists.{all, firstOf, overlap}
 use Rattle.words.specs.Bytes.{byte}
-use Rattle.model.specs.declared.Form.{Form}
 use Rattle.model.specs.declared.Region.{Region}
 use Rattle.model.specs.declared.Shape.{Shape}
 use Rattle.model.specs.Capabilities.{capabilities, listed, broken, withId}

@@ -1,6 +1,6 @@
 -- Lists of calls, starts and restores among them, each with card and buffers as the last one left them. Assumes nothing.
 use mathlib.Core.List.{List, [], _∷_}
-use lib.ListN.{length, take}
+use lib.ListN.{take}
 use Prim.Native.Nat.{ℕ}
 use Rattle.model.specs.World.{World}
 use Rattle.model.specs.Calls.{Operation, Outcome, operate}

@@ -1,13 +1,12 @@
 -- Document 01, "Who is open": the mechanism in force, granted, open, and the waiting bits. Assumes nothing.
 use mathlib.Core.Bool.{Bool, true, false, not, cond, _&&_}
-use mathlib.Core.List.{List, [], _∷_}
+use mathlib.Core.List.{List}
 use Prim.Native.Nat.{ℕ, _+_, _*_, _/_, _%_, _^_, min}
 use lib.Dec.{ltb}
 use lib.ListN.{set}
 use Rattle.words.specs.Lists.{keep, count}
 use Rattle.words.specs.Bits.{bit, field}
 use Rattle.words.specs.Bytes.{byte, bitAt}
-use Rattle.model.specs.declared.Form.{Form}
 use Rattle.model.specs.declared.Shape.{Shape}
 use Rattle.model.specs.declared.Mode.{Mode}
 use Rattle.model.specs.declared.Mode.the-variants.{Pin, Msi, Msix}
@@ -53,11 +52,15 @@ inForce m s r = sameMode m (modeOf s r)
 unfoldable pub granted : Shape → Registers → ℕ
 granted s r = 2 ^ min (enableField s r) (s .msi .capable)
 
+-- the mask bit of entry v of an MSI-X table: control bit 0, in byte 12
+unfoldable pub entryMasked : List ℕ → ℕ → Bool
+entryMasked table v = bitAt table (16 * v + 12) 0
+
 -- the vector's own mask bit; without masks it is 0
 unfoldable pub masked : Mode → Shape → Registers → ℕ → Bool
 masked Pin s r v = false
 masked Msi s r v = s .msi .masks && bitAt (r .config) (s .msi .at + formOf s .mask) v
-masked Msix s r v = bitAt (r .table) (16 * v + 12) 0
+masked Msix s r v = entryMasked (r .table) v
 
 -- MSI: below granted. MSI-X: Function Mask 0
 unfoldable pub enabled : Mode → Shape → Registers → ℕ → Bool
@@ -77,10 +80,14 @@ vectorOf Msix s r e = e
 
 -- ---- waiting bits: MSI's in the card's state, MSI-X's in the pending array
 
+-- bit v of a pending array
+unfoldable pub pendingBit : List ℕ → ℕ → Bool
+pendingBit pending v = bit (byte pending (v / 8)) (v % 8)
+
 unfoldable pub waits : Mode → Endpoint → ℕ → Bool
 waits Pin u v = false
 waits Msi u v = bit (u .function .waiting) v
-waits Msix u v = bit (byte (u .pending) (v / 8)) (v % 8)
+waits Msix u v = pendingBit (u .pending) v
 
 -- the waiting bit of vector v set or cleared: `change` is setBit or clearBit
 unfoldable pub changeWaiting : (change : ℕ → ℕ → ℕ) → Mode → Endpoint → ℕ → Endpoint

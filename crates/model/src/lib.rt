@@ -72,6 +72,13 @@ pub struct Shape {
     pub msix: MsixShape,
 }
 
+// What the configuration says at a time: its shape, the form of its MSI, and the mechanism in force.
+pub struct Profile {
+    pub shape: Shape,
+    pub form: Form,
+    pub mode: Mode,
+}
+
 // An event number is not a vector number.
 pub struct Event(pub u16);
 

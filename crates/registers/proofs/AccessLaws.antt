@@ -10,14 +10,9 @@ use Rattle.words.proofs.BoolLaws.{neither, by-test, one-of}
 use Rattle.model.specs.declared.Shape.{Shape}
 use Rattle.model.specs.Capabilities.{capabilities, listed, withId}
 use Rattle.model.specs.Shape.{shapeOf, shapeIn, msixOf, noMsix, msixAt, regionAt}
-use Rattle.model.specs.Fit.{Fit}
 use Rattle.model.specs.Registers.{inTable, inPending}
 use Rattle.model.specs.Calls.{badConfig, badBar}
-use Rattle.model.proofs.StartLaws.{msi-high}
-use Rattle.registers.specs.Bounds.{MsiBounds, Aligned}
-
-pub msi-bounds : (c : List ℕ) (t p : ℕ) → Fit (shapeOf c) t p → MsiBounds (shapeOf c)
-msi-bounds c t p f = record { ends = f .msi; capable = f .capable; high = msi-high c }
+use Rattle.registers.specs.Bounds.{Aligned}
 
 pub aligned : (c : List ℕ) → Aligned (shapeOf c)
 unfolding shapeOf shapeIn msixOf noMsix msixAt regionAt

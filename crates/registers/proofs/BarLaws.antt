@@ -51,7 +51,8 @@ module _ (o n : ℕ) (w : o % 8 + n ≤ 8) where
 
     module _ (u : Endpoint) where
       -- the number in the table, or in the pending array
-      bytes : (l : List ℕ) (a : ℕ) (t : Bool) → a ≤ o → inTable s b o ≡ t → ((k : ℕ) → cond t (byte (u .table) (k - s .msix .table .at)) (byte (u .pending) (k - s .msix .pending .at)) ≡ byte l (k - a))
+      bytes : (l : List ℕ) (a : ℕ) (t : Bool) → a ≤ o → inTable s b o ≡ t
+          → ((k : ℕ) → cond t (byte (u .table) (k - s .msix .table .at)) (byte (u .pending) (k - s .msix .pending .at)) ≡ byte l (k - a))
           → number (byte l) (o - a) n ≡ number (barByte s u b) o n
       unfolding barByte
       bytes l a t h e f =

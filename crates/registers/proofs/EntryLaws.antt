@@ -16,7 +16,7 @@ use Rattle.words.proofs.ByteLaws.{number-shift}
 use Rattle.words.proofs.ListLaws.{all-count}
 use Rattle.words.proofs.ZeroBits.{or-none, or-masked, clean, clean-word}
 use Rattle.model.specs.Registers.{entryZero, startedTable}
-use Rattle.model.proofs.TableLaws.{length-table, byte-table}
+use Rattle.model.proofs.Registers.TableLaws.{length-table, byte-table}
 
 -- ---- the bits that read 0, eight bytes at once
 

@@ -7,3 +7,4 @@ pub mod StoredLaws
 pub mod BarLaws
 pub mod AccessLaws
 pub mod PartLaws
+pub mod ClearLaws

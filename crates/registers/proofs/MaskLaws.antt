@@ -14,7 +14,7 @@ use Rattle.model.specs.declared.Form.{Form}
 use Rattle.model.specs.declared.Shape.{Shape}
 use Rattle.model.specs.Shape.{formOf, forms, msiPresent, msixPresent}
 use Rattle.model.specs.Registers.{headerWritable, headerZero, msiWritable, msiZero, msixWritable, maskBytes, inMask, inPendingRegister, inMsi, inMsix, writable, storedZero}
-use Rattle.model.proofs.FitLaws.{size-small}
+use Rattle.model.proofs.Shapes.FitLaws.{size-small}
 
 -- ---- the four forms
 

@@ -1,7 +1,7 @@
 -- What a read of the configuration shows. Assumes nothing.
 use mathlib.Core.Path.{_≡_, sym, ap, ap₂, _∙_}
 use mathlib.Core.Bool.{Bool, true, false, _&&_, and-false}
-use mathlib.Core.List.{List, []}
+use mathlib.Core.List.{List}
 use Prim.Native.Nat.{ℕ, _+_, _-_, _*_, _/_, _%_, _≤_, _<_}
 use native.Mathlib.Omega.{arith}
 use lib.Bits.{bitAnd}
@@ -16,23 +16,14 @@ use Rattle.words.proofs.BoolLaws.{both, and-intro, same-test, by-test, cond-eli
 use Rattle.words.proofs.ByteLaws.{bytesOf-lt, number-same}
 use Rattle.words.proofs.ListLaws.{within-true, true-within, all-at}
 use Rattle.model.specs.declared.Form.{Form}
-use Rattle.model.specs.declared.Function.{Function}
 use Rattle.model.specs.declared.Shape.{Shape}
-use Rattle.model.specs.World.{Endpoint, endpointOf}
+use Rattle.model.specs.World.{Endpoint}
 use Rattle.model.specs.Shape.{formOf}
 use Rattle.model.specs.Registers.{inMsi, inPendingRegister, shown, storedZero, headerZero}
 use Rattle.model.specs.Sound.{zeroBits}
 use Rattle.layout.proofs.Checks.{msi-absent, msi-there}
 use Rattle.registers.proofs.MaskLaws.{masked}
-use Rattle.registers.specs.Shown.{byteShown}
-
--- what a read shows depends only on the function
-pub shown-function : (s : Shape) (u v : Endpoint) → u .function ≡ v .function → (i : ℕ) → shown s u i ≡ shown s v i
-unfolding shown
-shown-function s u v e i = rw e
-
-pub value-function : (s : Shape) (u v : Endpoint) → u .function ≡ v .function → (i n : ℕ) → number (shown s u) i n ≡ number (shown s v) i n
-value-function s u v e i n = number-same (shown s u) (shown s v) i n (λ k h j. shown-function s u v e k)
+use Rattle.registers.specs.Shown.{byteShown, configShown}
 
 -- ---- one byte
 
@@ -86,9 +77,15 @@ pending-fits s f e m = rw e (sym (masked s m .last))
 
 -- ---- the bytes of a function
 
-pub shown-stored : (s : Shape) (f : Function) (i : ℕ) → byteShown s (f .line) (f .waiting) i (byte (f .config) i) ≡ shown s (endpointOf f [] []) i
+shown-stored : (s : Shape) (u : Endpoint) (i : ℕ) → byteShown s (u .function .line) (u .function .waiting) i (byte (u .function .config) i) ≡ shown s u i
 unfolding shown byteShown
-shown-stored s f i = by-test (eqb i 6) (λ t. let q : i ≡ 6 = eqb-true i 6 t in rw q) (λ t. rw t)
+shown-stored s u i = by-test (eqb i 6) (λ t. let q : i ≡ 6 = eqb-true i 6 t in rw q) (λ t. rw t)
+
+-- n bytes from i on
+pub value-shown : (s : Shape) (u : Endpoint) (i n : ℕ)
+    → number (configShown s (u .function .line) (u .function .waiting) (u .function .config)) i n ≡ number (shown s u) i n
+value-shown s u i n =
+    number-same (configShown s (u .function .line) (u .function .waiting) (u .function .config)) (shown s u) i n (λ k h j. shown-stored s u k)
 
 -- ---- Status
 
@@ -102,9 +99,12 @@ status-room s c z h l =
     omega arith
 
 -- each is a byte
-pub shown-lt : (s : Shape) (f : Function) → ((k : ℕ) → byte (f .config) k < 256) → byte (f .config) 6 ≤ 247 → (i : ℕ) → shown s (endpointOf f [] []) i < 256
-unfolding shown
-shown-lt s f h l i =
-    cond-elim (λ (x : ℕ). x < 256) (eqb i 6) (λ _. omega (arith, ofBool-small (f .line)))
-    (λ _. cond-elim (λ (x : ℕ). x < 256) (inMsi s i && inPendingRegister s (i - s .msi .at))
-    (λ _. bytesOf-lt 4 (f .waiting) (i - s .msi .at - formOf s .pending)) (λ _. h i))
+pub shown-lt : (s : Shape) (line : Bool) (waiting : ℕ) (c : List ℕ) → ((k : ℕ) → byte c k < 256) → byte c 6 ≤ 247 → (i : ℕ) → configShown s line waiting c i < 256
+unfolding byteShown
+shown-lt s line waiting c h l i =
+    by-test (eqb i 6)
+    (λ t. rw t (let e : byte c i ≡ byte c 6 = ap (byte c) (eqb-true i 6 t) in omega (arith, ofBool-small line)))
+    (λ t.
+    rw t
+    (cond-elim (λ (x : ℕ). x < 256) (inMsi s i && inPendingRegister s (i - s .msi .at))
+    (λ _. bytesOf-lt 4 waiting (i - s .msi .at - formOf s .pending)) (λ _. h i)))

@@ -23,8 +23,8 @@ use Rattle.model.specs.declared.Shape.{Shape}
 use Rattle.model.specs.Shape.{formOf, msiPresent}
 use Rattle.model.specs.Registers.{headerZero, msiZero, maskBytes, inMask, inPendingRegister, inMsi, storedZero}
 use Rattle.model.specs.Sound.{zeroBits}
-use Rattle.model.proofs.PlaceLaws.{in-msi, size-large}
-use Rattle.model.proofs.FitLaws.{size-small}
+use Rattle.model.proofs.Shapes.PlaceLaws.{in-msi, size-large}
+use Rattle.model.proofs.Shapes.FitLaws.{size-small}
 use Rattle.layout.proofs.Checks.{msi-there, msi-absent}
 use Rattle.registers.specs.Bounds.{MsiBounds}
 use Rattle.registers.proofs.CleanLaws.{zero-bits}

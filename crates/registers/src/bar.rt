@@ -9,7 +9,6 @@ ghost use Rattle.model.specs.Fit.{Fit};
 ghost use Rattle.model.specs.World.{zeroFunction, endpointOf};
 ghost use Rattle.model.specs.Registers.{inRegion, inTable, inPending, barByte};
 ghost use Rattle.registers.specs.Bounds.{Aligned};
-use crate::masks::within;
 use layout::start::pending_bytes;
 use layout::start::table_bytes;
 use model::Region;
@@ -25,7 +24,7 @@ fn in_region(at: usize, r: Region, n: usize, bar: u8, offset: u32) -> bool
     if bar as usize != r.bar {
         return false;
     }
-    within(r.at, n, offset as usize)
+    words::ranges::within(r.at, n, offset as usize)
 }
 
 pub fn in_table(s: Shape, bar: u8, offset: u32) -> bool

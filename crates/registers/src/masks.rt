@@ -2,18 +2,11 @@
 ghost use mathlib.Core.Path.{_≡_};
 ghost use Prim.Native.Nat.{_-_, _^_, _≤_, _<_};
 ghost use Rattle.words.specs.Lists.{within};
-ghost use Rattle.words.specs.Bytes.{byte, bytesOf};
+ghost use Rattle.words.specs.Bytes.{byte};
 ghost use Rattle.model.specs.Shape.{formOf};
 ghost use Rattle.model.specs.Registers.{headerWritable, msiWritable, msiZero, maskBytes, writable, storedZero};
 use model::Form;
 use model::Shape;
-
-// Place k is one of the n from lo on.
-pub fn within(lo: usize, n: usize, k: usize) -> bool
-    ensures { λ r. ⌜ r ≡ within lo n k ⌝ }
-{
-    lo <= k && k - lo < n
-}
 
 // The MSI mask bits below 2^Capable.
 pub fn mask_bits(s: Shape) -> u32
@@ -24,20 +17,12 @@ pub fn mask_bits(s: Shape) -> u32
     ((1u64 << bits) - 1) as u32
 }
 
-// Byte k of a register.
-pub fn byte_of(x: u32, k: usize) -> u8
-    requires { ⌜ k < 4 ⌝ }
-    ensures { λ r. ⌜ r ≡ byte (bytesOf 4 x) k ⌝ }
-{
-    ((x >> (8 * k)) % 256) as u8
-}
-
 // Byte k of the mask bits.
 fn mask_byte(s: Shape, k: usize) -> u8
     requires { ⌜ (s .msi .capable ≤ 5) × (k < 4) ⌝ }
     ensures { λ r. ⌜ r ≡ byte (maskBytes s) k ⌝ }
 {
-    byte_of(mask_bits(s), k)
+    words::bits::byte_of(mask_bits(s), k)
 }
 
 // Command bits 1, 2 and 10, and Interrupt Line.
@@ -67,7 +52,7 @@ fn msi_writable(s: Shape, f: Form, k: usize) -> u8
     if k - 2 < f.message {
         return 0xff;
     }
-    if within(f.mask, 4, k) {
+    if words::ranges::within(f.mask, 4, k) {
         return mask_byte(s, k - f.mask);
     }
     0
@@ -81,10 +66,10 @@ pub fn writable(s: Shape, f: Form, i: usize) -> u8
     if i < 64 {
         return header_writable(i);
     }
-    if within(s.msi.at, f.size, i) {
+    if words::ranges::within(s.msi.at, f.size, i) {
         return msi_writable(s, f, i - s.msi.at);
     }
-    if within(s.msix.at, 12, i) {
+    if words::ranges::within(s.msix.at, 12, i) {
         return if i - s.msix.at == 3 { 0xc0 } else { 0 };
     }
     0
@@ -98,10 +83,14 @@ fn msi_zero(s: Shape, f: Form, k: usize) -> u8
     if k < 8 {
         return if k == 4 { 0x03 } else { 0 };
     }
-    if within(f.mask, 4, k) {
+    if words::ranges::within(f.mask, 4, k) {
         return !mask_byte(s, k - f.mask);
     }
-    if within(f.pending, 4, k) { 0xff } else { 0 }
+    if words::ranges::within(f.pending, 4, k) {
+        0xff
+    } else {
+        0
+    }
 }
 
 // The bits of byte i that are stored as 0: Status bit 3, and MSI's.
@@ -112,7 +101,7 @@ pub fn stored_zero(s: Shape, f: Form, i: usize) -> u8
     if i < 64 {
         return if i == 6 { 0x08 } else { 0 };
     }
-    if within(s.msi.at, f.size, i) {
+    if words::ranges::within(s.msi.at, f.size, i) {
         return msi_zero(s, f, i - s.msi.at);
     }
     0

@@ -1,14 +1,13 @@
 // The configuration of a started card.
 ghost use mathlib.Core.Path.{_≡_};
-ghost use Prim.Native.Nat.{ℕ, _+_, _≤_, min};
+ghost use Prim.Native.Nat.{ℕ, _+_, _≤_, min, max};
 ghost use lib.ListN.{length};
 ghost use Rattle.words.specs.Bytes.{byte};
 ghost use Rattle.model.specs.Shape.{formOf};
 ghost use Rattle.model.specs.Registers.{fixedByte, startedConfig};
-ghost use Rattle.registers.specs.Parts.{partFixed};
+ghost use Rattle.registers.specs.Parts.{partFixed, partZero};
 use crate::masks::stored_zero;
 use crate::masks::writable;
-use layout::form::form;
 use model::Form;
 use model::Shape;
 
@@ -40,26 +39,71 @@ fn fix_part(config: &mut [u8], s: Shape, f: Form, lo: usize, hi: usize)
     }
 }
 
+// The bytes from place lo to hi - 1 are 0.
+fn zero_part(config: &mut [u8], lo: usize, hi: usize)
+    requires { ⌜ (length (now config) ≡ 256) × (hi ≤ 256) ⌝ }
+    ensures { λ r. ⌜ ((k : ℕ) → byte (now (config .exit)) k ≡ partZero lo hi (now (config .entry)) k) ⌝ }
+{
+    for i in lo..hi {
+        config[i] = 0;
+    }
+}
+
+// MSI's bytes, where it stands from 40h on: bits of control byte 2, then address and data, then behind two bytes masks and Pending, if any.
+fn clear_msi(config: &mut [u8], s: Shape, f: Form)
+    requires { ⌜ (length (now config) ≡ 256) × (64 ≤ s .msi .at) × (s .msi .capable ≤ 5) × (f ≡ formOf s) ⌝ }
+    ensures { λ r. ⌜ ((k : ℕ) → byte (now (config .exit)) k ≡ partFixed s (s .msi .at) (min (s .msi .at + f .size) 256) (now (config .entry)) k) ⌝ }
+{
+    fix_part(config, s, f, part_end(s.msi.at, 2), part_end(s.msi.at, 3));
+    zero_part(
+        config,
+        part_end(s.msi.at, 4),
+        part_end(s.msi.at, f.message + 2),
+    );
+    zero_part(
+        config,
+        part_end(s.msi.at, f.message + 4),
+        part_end(s.msi.at, f.size),
+    );
+}
+
+// Those of MSI's bytes that are not in the header. There are none without MSI, which then stands at 0.
+fn fix_msi(config: &mut [u8], s: Shape, f: Form)
+    requires { ⌜ (length (now config) ≡ 256) × (s .msi .capable ≤ 5) × (f ≡ formOf s) ⌝ }
+    ensures { λ r. ⌜ ((k : ℕ) → byte (now (config .exit)) k ≡ partFixed s (max 64 (s .msi .at)) (min (s .msi .at + f .size) 256) (now (config .entry)) k) ⌝ }
+{
+    if s.msi.at < 64 {
+        fix_part(config, s, f, 64, part_end(s.msi.at, f.size));
+        return;
+    }
+    clear_msi(config, s, f);
+}
+
 // Made of zeros, then filled byte by byte; then the parts that have writable bits or bits that are stored as 0.
-fn started_bytes(c: &[u8], s: Shape) -> [u8; 256]
-    requires { ⌜ (length (now c) ≡ 256) × (s .msi .capable ≤ 5) ⌝ }
+fn started_bytes(c: &[u8], s: Shape, f: Form) -> [u8; 256]
+    requires { ⌜ (length (now c) ≡ 256) × (s .msi .capable ≤ 5) × (f ≡ formOf s) ⌝ }
     ensures { λ r. ⌜ r ≡ startedConfig s (now (c .entry)) ⌝ }
 {
     let mut config = [0; 256];
     for i in 0..256usize {
         config[i] = c[i];
     }
-    let f = form(s);
-    fix_part(&mut config, s, f, 4, 8);
+    fix_part(&mut config, s, f, 4, 7);
     fix_part(&mut config, s, f, 0x3c, 0x3d);
-    fix_part(&mut config, s, f, s.msi.at, part_end(s.msi.at, f.size));
-    fix_part(&mut config, s, f, s.msix.at, part_end(s.msix.at, 4));
+    fix_msi(&mut config, s, f);
+    fix_part(
+        &mut config,
+        s,
+        f,
+        part_end(s.msix.at, 3),
+        part_end(s.msix.at, 4),
+    );
     config
 }
 
-pub fn started_config(c: &[u8; 256], s: Shape) -> [u8; 256]
-    requires { ⌜ s .msi .capable ≤ 5 ⌝ }
+pub fn started_config(c: &[u8; 256], s: Shape, f: Form) -> [u8; 256]
+    requires { ⌜ (s .msi .capable ≤ 5) × (f ≡ formOf s) ⌝ }
     ensures { λ r. ⌜ r ≡ startedConfig s (now (c .entry)) ⌝ }
 {
-    started_bytes(c, s)
+    started_bytes(c, s, f)
 }

@@ -17,10 +17,10 @@ use Rattle.words.proofs.ByteLaws.{bytes-set}
 use Rattle.words.proofs.ListLaws.{Holds, member-keep, count-member}
 use Rattle.model.specs.declared.Mode.the-variants.{Msi, Msix}
 use Rattle.model.specs.World.{Endpoint, endpointOf, withWaiting, zeroFunction}
-use Rattle.model.specs.Vectors.{waits, changeWaiting}
+use Rattle.model.specs.Vectors.{waits, changeWaiting, pendingBit}
 use Rattle.model.specs.Release.{clearAll}
-use Rattle.model.proofs.WaitingLaws.{clear-only, waits-clear}
-use Rattle.release.specs.Owed.{setBits, waitsAt, clearPending}
+use Rattle.model.proofs.Vectors.WaitingLaws.{clear-only, waits-clear}
+use Rattle.release.specs.Owed.{setBits, clearPending}
 
 -- ---- MSI: only the waiting word changes
 
@@ -58,8 +58,8 @@ clear-msi k w u h = msi-only u (setBits k w) ∙ ap (λ (x : ℕ). withWaiting u
 
 -- ---- a pending array
 
-pub waits-cleared : (p vs : List ℕ) (x : ℕ) → Holds (λ v. v < 8 * length p) vs → waitsAt (clearPending p vs) x ≡ (waitsAt p x && not (member x vs))
-unfolding waits waitsAt clearPending
+pub waits-cleared : (p vs : List ℕ) (x : ℕ) → Holds (λ v. v < 8 * length p) vs → pendingBit (clearPending p vs) x ≡ (pendingBit p x && not (member x vs))
+unfolding waits pendingBit clearPending
 waits-cleared p vs x h = waits-clear Msix (endpointOf zeroFunction [] p) vs x h
 
 pub length-cleared : (p vs : List ℕ) → length (clearPending p vs) ≡ length p
@@ -90,8 +90,8 @@ bytes-cleared p (v ∷ vs) b =
 
 -- ---- lists of bytes with the same bits are equal
 
-pub same-bits : (l m : List ℕ) → length l ≡ length m → Bytes l → Bytes m → ((v : ℕ) → v < 8 * length l → waitsAt l v ≡ waitsAt m v) → l ≡ m
-unfolding waitsAt
+pub same-bits : (l m : List ℕ) → length l ≡ length m → Bytes l → Bytes m → ((v : ℕ) → v < 8 * length l → pendingBit l v ≡ pendingBit m v) → l ≡ m
+unfolding pendingBit
 same-bits l m n a b h =
     ext-getD 0 l m n
     (λ i q.

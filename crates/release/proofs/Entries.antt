@@ -1,5 +1,4 @@
 -- The messages of table entries. Assumes nothing.
-use mathlib.Core.Path.{_≡_}
 use mathlib.Core.List.{List}
 use Prim.Native.Nat.{ℕ, _+_, _*_, _≤_}
 use native.Mathlib.Omega.{arith}
@@ -8,13 +7,10 @@ use Rattle.words.specs.Lists.{count}
 use Rattle.words.specs.Bits.{bit}
 use Rattle.words.specs.Bytes.{word32}
 use Rattle.words.proofs.ListLaws.{join-length, keep-length, length-count}
-use Rattle.model.specs.Packets.{messageSize}
-use Rattle.model.proofs.PacketLaws.{message-length, size-le}
-use Rattle.release.specs.Owed.{setBits, owes, owedEntries, entryMessage, entryPackets, wordPackets}
-
-pub entry-length : (requester : ℕ) (table : List ℕ) (v : ℕ) → length (entryMessage requester table v) ≡ messageSize (word32 table (16 * v + 4))
-unfolding entryMessage
-entry-length requester table v = message-length requester (word32 table (16 * v + 4)) (word32 table (16 * v)) (word32 table (16 * v + 8))
+use Rattle.model.specs.Packets.{entryMessage}
+use Rattle.model.proofs.Vectors.PacketLaws.{size-le}
+use Rattle.vectors.proofs.MessageLaws.{entry-length}
+use Rattle.release.specs.Owed.{setBits, owes, owedEntries, entryPackets, wordPackets}
 
 pub entry-le : (requester : ℕ) (table : List ℕ) (v : ℕ) → length (entryMessage requester table v) ≤ 20
 entry-le requester table v = omega (arith, entry-length requester table v, size-le (word32 table (16 * v + 4)))

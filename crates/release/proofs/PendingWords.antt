@@ -21,21 +21,23 @@ use Rattle.words.proofs.ShiftLaws.{keep-shift}
 use Rattle.words.proofs.LowestLaws.{lowest-trailing}
 use Rattle.words.proofs.OnesLaws.{no-set-bits}
 use Rattle.model.specs.Sound.{isEmpty}
+use Rattle.model.specs.Vectors.{entryMasked, pendingBit}
+use Rattle.model.specs.Packets.{entryMessage}
 use Rattle.words.proofs.SetBits.{turn}
-use Rattle.release.specs.Owed.{setBits, entries, maskedAt, waitsAt, owes, owedEntries, entryMessage, entryPackets, wordPackets, Lent, Backed, Unmasked, owedWord}
+use Rattle.release.specs.Owed.{setBits, entries, owes, owedEntries, entryPackets, wordPackets, Lent, Backed, Unmasked, owedWord}
 
 -- ---- a word's bits are the waiting bits of its vectors
 
-pub word-bit : (p : List ℕ) (k j : ℕ) → Bytes p → j < 64 → bit (word64 p k) j ≡ waitsAt p (8 * k + j)
-unfolding word64 waitsAt
+pub word-bit : (p : List ℕ) (k j : ℕ) → Bytes p → j < 64 → bit (word64 p k) j ≡ pendingBit p (8 * k + j)
+unfolding word64 pendingBit
 word-bit p k j b h =
     let e : k + j / 8 ≡ (8 * k + j) / 8 = omega arith in
     let d : j % 8 ≡ (8 * k + j) % 8 = omega arith in
     bit-number (byte p) b k 8 j h ∙ ap₂ (λ (i m : ℕ). bit (byte p i) m) e d
 
 -- no bit waits past the end
-pub waits-past : (p : List ℕ) (v : ℕ) → 8 * length p ≤ v → waitsAt p v ≡ false
-unfolding waitsAt
+pub waits-past : (p : List ℕ) (v : ℕ) → 8 * length p ≤ v → pendingBit p v ≡ false
+unfolding pendingBit
 waits-past p v h = ap (λ (b : ℕ). bit b (v % 8)) (List·getD-eq-default p 0 (omega arith)) ∙ bit-of-zero (v % 8)
 
 -- ---- each waiting vector has an entry
@@ -51,7 +53,7 @@ word-backed table p k b l j e =
 
 pub open-backed : (table p : List ℕ) (k r : ℕ) → Bytes p → Lent table p → Unmasked table (8 * k) (word64 p k) r → Backed table (8 * k) r
 open-backed table p k r b l u j e =
-    word-backed table p k b l j (both (bit (word64 p k) j) (not (maskedAt table (8 * k + j))) (sym (u j) ∙ e) .0)
+    word-backed table p k b l j (both (bit (word64 p k) j) (not (entryMasked table (8 * k + j))) (sym (u j) ∙ e) .0)
 
 -- ---- what a word owes
 
@@ -59,8 +61,8 @@ module _ (table p : List ℕ) (k r : ℕ) (b : Bytes p) (u : Unmasked table (8 *
   pub word-owes : (j : ℕ) → j < 64 → bit r j ≡ owes table p (8 * k + j)
   unfolding owes
   word-owes j h =
-      u j ∙ ap (λ (x : Bool). x && not (maskedAt table (8 * k + j))) (word-bit p k j b h)
-      ∙ and-comm (waitsAt p (8 * k + j)) (not (maskedAt table (8 * k + j)))
+      u j ∙ ap (λ (x : Bool). x && not (entryMasked table (8 * k + j))) (word-bit p k j b h)
+      ∙ and-comm (pendingBit p (8 * k + j)) (not (entryMasked table (8 * k + j)))
 
   pub owed-bits : owedWord table p k ≡ map (λ j. 8 * k + j) (setBits 64 r)
   owed-bits =
@@ -111,5 +113,5 @@ pub owed-all : (table p : List ℕ) → Lent table p → owedFrom table p 0 ≡ 
 unfolding owedEntries owes
 owed-all table p l =
     keep-same-end (owes table p) (8 * (length p - 0)) (entries table)
-    (λ v h. rw (waits-past p v (omega arith)) (and-false (not (maskedAt table v))))
-    (λ v h. rw (l .beyond v h) (and-false (not (maskedAt table v))))
+    (λ v h. rw (waits-past p v (omega arith)) (and-false (not (entryMasked table v))))
+    (λ v h. rw (l .beyond v h) (and-false (not (entryMasked table v))))

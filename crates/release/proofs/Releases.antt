@@ -9,12 +9,13 @@ use Rattle.words.specs.Bytes.{word64, bytesOf, Bytes}
 use Rattle.words.specs.Writers.{over, putAt, Wrote}
 use Rattle.words.proofs.BitLaws.{and-not}
 use Rattle.words.proofs.ByteLaws.{word64-lt}
-use Rattle.release.specs.Owed.{entries, owedEntries, entryMessage, entryPackets, clearPending, Lent, Unmasked, Released, owedWord, wordPackets}
+use Rattle.release.specs.Owed.{entries, owedEntries, entryPackets, clearPending, Lent, Unmasked, Released, owedWord, wordPackets}
 use Rattle.words.proofs.ListLaws.{join-none}
 use Rattle.release.proofs.PendingWords.{word-packets, owedFrom, owed-all, owed-split, owed-end, packets-split}
 use Rattle.words.proofs.Sending.{Sending, sending-all, sending-fits, sending-next, sending-done}
 use Rattle.release.proofs.WordClear.{word-cleared, owed-after, lent-after}
 use Rattle.release.proofs.Clearing.{clear-nothing, clear-append, length-cleared}
+use Rattle.model.specs.Packets.{entryMessage}
 
 pub released-none : (requester : ℕ) (table vs p o : List ℕ) → vs ≡ [] → Released requester table vs p o 0 p o
 released-none requester table vs p o e =
@@ -98,6 +99,7 @@ module _ (requester : ℕ) (table p₀ o₀ : List ℕ) where
   releasing-done o p sent at g h =
       let e : owedFrom table p at ≡ [] = owed-end table p at h in
       record {
-        sent = sending-done (entryPackets requester table all) o₀ o (entryPackets requester table (owedFrom table p at)) sent (g .sending) (join-none (entryMessage requester table) (owedFrom table p at) e);
+        sent = sending-done (entryPackets requester table all) o₀ o (entryPackets requester table (owedFrom table p at)) sent (g .sending)
+            (join-none (entryMessage requester table) (owedFrom table p at) e);
         cleared = sym (ap (clearPending p) e ∙ clear-nothing p) ∙ g .clearing;
       }

@@ -2,15 +2,15 @@
 use mathlib.Core.Bool.{Bool, true, false, not, _&&_}
 use mathlib.Core.List.{List, []}
 use mathlib.Core.Path.{_≡_}
-use Prim.Native.Nat.{ℕ, _+_, _*_, _/_, _%_, _≤_, _<_}
+use Prim.Native.Nat.{ℕ, _+_, _*_, _/_, _≤_, _<_}
 use lib.ListN.{length}
 use Rattle.words.specs.Lists.{count, keep, join}
 use Rattle.words.specs.Bits.{bit}
-use Rattle.words.specs.Bytes.{byte, bitAt, word32}
 use Rattle.words.specs.Writers.{Wrote}
 use Rattle.model.specs.declared.Mode.the-variants.{Msix}
 use Rattle.model.specs.World.{endpointOf, zeroFunction}
-use Rattle.model.specs.Packets.{message}
+use Rattle.model.specs.Vectors.{entryMasked, pendingBit}
+use Rattle.model.specs.Packets.{message, entryMessage}
 use Rattle.model.specs.Release.{clearAll}
 
 -- the set bits of a number of k bits, the lowest first
@@ -28,15 +28,9 @@ msiPackets requester upper address base owed = join (λ v. message requester upp
 abbrev pub entries : List ℕ → ℕ
 entries table = length table / 16
 
--- the mask bit of entry v, and the waiting bit of vector v
-unfoldable pub maskedAt : List ℕ → ℕ → Bool
-maskedAt table v = bitAt table (16 * v + 12) 0
-
-unfoldable pub waitsAt : List ℕ → ℕ → Bool
-waitsAt pending v = bit (byte pending (v / 8)) (v % 8)
-
+-- vector v is not masked and waits
 unfoldable pub owes : List ℕ → List ℕ → ℕ → Bool
-owes table pending v = not (maskedAt table v) && waitsAt pending v
+owes table pending v = not (entryMasked table v) && pendingBit pending v
 
 unfoldable pub owedEntries : List ℕ → List ℕ → ℕ → List ℕ
 owedEntries table pending n = keep (owes table pending) (count 0 n)
@@ -44,10 +38,6 @@ owedEntries table pending n = keep (owes table pending) (count 0 n)
 -- of the whole table
 abbrev pub owedAll : List ℕ → List ℕ → List ℕ
 owedAll table pending = owedEntries table pending (entries table)
-
--- the message of entry v
-unfoldable pub entryMessage : (requester : ℕ) → List ℕ → ℕ → List ℕ
-entryMessage requester table v = message requester (word32 table (16 * v + 4)) (word32 table (16 * v)) (word32 table (16 * v + 8))
 
 abbrev pub entryPackets : (requester : ℕ) → List ℕ → List ℕ → List ℕ
 entryPackets requester table vs = join (entryMessage requester table) vs
@@ -64,7 +54,7 @@ pub record Released (requester : ℕ) (table vs p o : List ℕ) (r : ℕ) (p′ 
 -- what the code asks of the lent buffers
 pub record Lent (table pending : List ℕ) : Type 0 where
   pub words : length pending ≡ 8 * ((entries table + 63) / 64)
-  pub beyond : (v : ℕ) → entries table ≤ v → waitsAt pending v ≡ false
+  pub beyond : (v : ℕ) → entries table ≤ v → pendingBit pending v ≡ false
 
 -- ---- a word of 64 vectors, from vector base on
 
@@ -74,7 +64,7 @@ Backed table base w = (j : ℕ) → bit w j ≡ true → base + j < entries tabl
 
 -- those whose entry is not masked
 abbrev pub Unmasked : List ℕ → ℕ → ℕ → ℕ → Type 0
-Unmasked table base w r = (j : ℕ) → bit r j ≡ (bit w j && not (maskedAt table (base + j)))
+Unmasked table base w r = (j : ℕ) → bit r j ≡ (bit w j && not (entryMasked table (base + j)))
 
 -- of the vectors from byte `at` of the pending array on, those that a word owes
 abbrev pub owedWord : List ℕ → List ℕ → ℕ → List ℕ

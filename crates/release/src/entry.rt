@@ -1,8 +1,8 @@
 ghost use mathlib.Core.Path.{_≡_};
-ghost use Prim.Native.Nat.{ℕ, _+_, _<_, _≤_};
+ghost use Prim.Native.Nat.{ℕ, _≤_};
 ghost use lib.ListN.{length};
 ghost use Rattle.words.specs.Writers.{Wrote};
-ghost use Rattle.release.specs.Owed.{Backed, Unmasked, entries, entryMessage, wordPackets};
+ghost use Rattle.release.specs.Owed.{Backed, Unmasked, wordPackets};
 
 // Of the set bits of a word of 64 vectors, from vector `base` on, those whose entry is not masked.
 pub fn unmasked(table: &[u8], base: usize, w: u64) -> u64
@@ -35,18 +35,6 @@ pub fn word_size(table: &[u8], base: usize, w: u64) -> usize
     n
 }
 
-// Writes the message of entry v.
-fn put_entry(out: &mut [u8], table: &[u8], v: usize, requester: u16) -> usize
-    requires { ⌜ (v < entries (now table)) × (length (entryMessage requester (now table) v) ≤ length (now out)) ⌝ }
-    ensures { λ r. ⌜ Wrote (entryMessage requester (now (table .entry)) v) (now (out .entry)) r (now (out .exit)) ⌝ }
-{
-    let at = 16 * v;
-    let address = words::get::word32(table, at);
-    let upper = words::get::word32(table, at + 4);
-    let value = words::get::word32(table, at + 8);
-    tlp::put_message(out, requester, upper, address, value)
-}
-
 // Writes one message for each vector of a word, the lowest first.
 pub fn word_send(out: &mut [u8], table: &[u8], base: usize, w: u64, requester: u16) -> usize
     requires { ⌜ Backed (now table) base w × (length (wordPackets requester (now table) base w) ≤ length (now out)) ⌝ }
@@ -56,7 +44,7 @@ pub fn word_send(out: &mut [u8], table: &[u8], base: usize, w: u64, requester: u
     let mut at: usize = 0;
     while left != 0 {
         let v = words::bits::lowest(left);
-        at += put_entry(&mut out[at..], table, base + (v as usize), requester);
+        at += vectors::message::put_entry(&mut out[at..], table, base + (v as usize), requester);
         left = left & (left - 1);
     }
     at

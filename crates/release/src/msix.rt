@@ -54,7 +54,8 @@ fn release_word(
     requester: u16,
 ) -> usize
     requires { ⌜ Lent (now table) (now pending) × (at + 8 ≤ length (now pending)) × (length (entryPackets requester (now table) (owedWord (now table) (now pending) at)) ≤ length (now out)) ⌝ }
-    ensures { λ r. ⌜ Released requester (now (table .entry)) (owedWord (now (table .entry)) (now (pending .entry)) at) (now (pending .entry)) (now (out .entry)) r (now (pending .exit)) (now (out .exit)) ⌝ }
+    ensures { λ r. ⌜ Released requester (now (table .entry)) (owedWord (now (table .entry)) (now (pending .entry)) at) (now (pending .entry)) (now (out .entry)) r
+        (now (pending .exit)) (now (out .exit)) ⌝ }
 {
     let open = open_word(table, pending, at);
     if open == 0 {
@@ -68,7 +69,8 @@ fn release_word(
 // Sends the owed vectors, the lowest first, and clears their bits.
 pub fn msix_send(out: &mut [u8], table: &[u8], pending: &mut [u8], requester: u16) -> usize
     requires { ⌜ Lent (now table) (now pending) × (length (entryPackets requester (now table) (owedAll (now table) (now pending))) ≤ length (now out)) ⌝ }
-    ensures { λ r. ⌜ Released requester (now (table .entry)) (owedAll (now (table .entry)) (now (pending .entry))) (now (pending .entry)) (now (out .entry)) r (now (pending .exit)) (now (out .exit)) ⌝ }
+    ensures { λ r. ⌜ Released requester (now (table .entry)) (owedAll (now (table .entry)) (now (pending .entry))) (now (pending .entry)) (now (out .entry)) r
+        (now (pending .exit)) (now (out .exit)) ⌝ }
 {
     let mut sent: usize = 0;
     let mut at: usize = 0;

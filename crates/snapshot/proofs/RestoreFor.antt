@@ -20,9 +20,9 @@ use Rattle.model.specs.World.{World, worldOf, cardOf}
 use Rattle.model.specs.Sound.{sound}
 use Rattle.model.specs.Image.{mark, functionIn, worldIn, isSaved, restoreRefusal}
 use Rattle.model.specs.Calls.{accepted, restoreOf}
-use Rattle.model.proofs.FitLaws.{sound-fit}
-use Rattle.model.proofs.RestoreCalls as RestoreCalls
-use Rattle.model.proofs.RestoreCalls.{IsImage, saved-is, buffers-held, held-lengths, none-refuses}
+use Rattle.model.proofs.Shapes.FitLaws.{sound-fit}
+use Rattle.model.proofs.Calls.RestoreCalls as RestoreCalls
+use Rattle.model.proofs.Calls.RestoreCalls.{IsImage, saved-is, buffers-held, held-lengths, none-refuses}
 use Rattle.image.specs.Layout.{imageSize}
 use Rattle.card.specs.declared.outcome.Outcome.{Outcome}
 use Rattle.card.specs.Outcomes.{refusedWith, acceptedWith, after}

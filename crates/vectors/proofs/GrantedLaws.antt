@@ -8,7 +8,7 @@ use Rattle.model.specs.declared.Mode.the-variants.{Pin, Msi, Msix}
 use Rattle.model.specs.declared.Shape.{Shape}
 use Rattle.model.specs.World.{Registers}
 use Rattle.model.specs.Vectors.{granted, vectorOf}
-use Rattle.model.proofs.EventLaws.{granted-le}
+use Rattle.model.proofs.Vectors.EventLaws.{granted-le}
 use Rattle.vectors.specs.Mapping.{vectorBy}
 
 -- the mapping by mode is the definition's

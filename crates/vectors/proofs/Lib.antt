@@ -1,5 +1,4 @@
 pub mod GrantedLaws
-pub mod FitShapeLaws
 pub mod FormLaws
 pub mod CountLaws
 pub mod MsiLaws

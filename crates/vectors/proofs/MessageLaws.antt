@@ -1,12 +1,15 @@
 -- The message of a vector from its parts. Assumes nothing.
 use mathlib.Core.Path.{_≡_, refl}
 use mathlib.Core.Bool.{true, false}
-use Prim.Native.Nat.{ℕ, _+_}
+use mathlib.Core.List.{List}
+use Prim.Native.Nat.{ℕ, _+_, _*_}
+use lib.ListN.{length}
 use Rattle.words.specs.Bytes.{word32}
 use Rattle.model.specs.declared.Mode.the-variants.{Msi}
 use Rattle.model.specs.declared.Shape.{Shape}
 use Rattle.model.specs.World.{Registers}
-use Rattle.model.specs.Packets.{message, messageOf, msiUpper}
+use Rattle.model.specs.Packets.{message, messageSize, messageOf, entryMessage, msiUpper}
+use Rattle.model.proofs.Vectors.PacketLaws.{message-length}
 use Rattle.vectors.specs.Messages.{msiBase}
 
 -- by the form
@@ -23,3 +26,8 @@ pub base-message : (s : Shape) (r : Registers) (requester v : ℕ)
     → message requester (msiBase s r .upper) (msiBase s r .address) (msiBase s r .value + v) ≡ messageOf Msi s requester r v
 unfolding msiBase messageOf
 base-message s r requester v = refl
+
+-- of an entry of the MSI-X table
+pub entry-length : (requester : ℕ) (table : List ℕ) (v : ℕ) → length (entryMessage requester table v) ≡ messageSize (word32 table (16 * v + 4))
+unfolding entryMessage
+entry-length requester table v = message-length requester (word32 table (16 * v + 4)) (word32 table (16 * v)) (word32 table (16 * v + 8))

@@ -18,20 +18,16 @@ use Rattle.model.specs.World.{Registers}
 use Rattle.model.specs.Vectors.{granted, masked, enabled, modeOf, sameMode, inForce, commandBit, isOpen}
 use Rattle.vectors.proofs.GrantedLaws.{granted-small}
 
--- MSI is not in force, or bus mastering is off
 module _ (s : Shape) (r : Registers) where
-  pub other-mode : sameMode Msi (modeOf s r) ≡ false → (v : ℕ) → bit 0 v ≡ isOpen Msi s r v
-  unfolding isOpen inForce
-  other-mode e v = rw e (bit-of-zero v)
-
+  -- bus mastering is off
   pub no-master : commandBit r 2 ≡ false → (v : ℕ) → bit 0 v ≡ isOpen Msi s r v
   unfolding isOpen
   no-master e v = rw (e, and-false) (bit-of-zero v)
 
   -- n are granted, and m is the mask register
   pub by-word : (n m : ℕ) → n ≤ 32 → m < 2 ^ 32 → n ≡ granted s r → ((v : ℕ) → v < 32 → bit m v ≡ masked Msi s r v)
-      → sameMode Msi (modeOf s r) ≡ true → commandBit r 2 ≡ true → (v : ℕ) → bit (bitAnd (2 ^ n - 1) ((2 ^ 32 - 1) - m)) v ≡ isOpen Msi s r v
-  unfolding isOpen inForce enabled
+      → modeOf s r ≡ Msi → commandBit r 2 ≡ true → (v : ℕ) → bit (bitAnd (2 ^ n - 1) ((2 ^ 32 - 1) - m)) v ≡ isOpen Msi s r v
+  unfolding isOpen inForce sameMode enabled
   by-word n m h j g k e c v =
       bit-and (2 ^ n - 1) ((2 ^ 32 - 1) - m) v ∙ ap (λ (b : Bool). b && bit ((2 ^ 32 - 1) - m) v) (bit-ones n v)
       ∙ by-test (ltb v n)

@@ -11,12 +11,12 @@ use Rattle.words.proofs.BitLaws.{bit-zero}
 use Rattle.model.specs.declared.Mode.the-variants.{Msix}
 use Rattle.model.specs.declared.Shape.{Shape}
 use Rattle.model.specs.World.{Registers}
-use Rattle.model.specs.Vectors.{masked, enabled, inForce, msixControlBit, commandBit, isOpen}
+use Rattle.model.specs.Vectors.{masked, enabled, inForce, msixControlBit, commandBit, isOpen, entryMasked}
 use Rattle.vectors.specs.Enabled.{msixEnabled}
 
 -- the mask bit of an entry
 pub entry-mask : (s : Shape) (r : Registers) (v : ℕ) → eqb (byte (r .table) (16 * v + 12) % 2) 1 ≡ masked Msix s r v
-unfolding masked bitAt
+unfolding masked bitAt entryMasked
 entry-mask s r v =
     sym (bit-zero (byte (r .table) (16 * v + 12))) ∙ ap (λ (i : ℕ). bit (byte (r .table) i) 0) (sym (add-zero (16 * v + 12)))
 

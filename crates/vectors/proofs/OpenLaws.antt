@@ -14,8 +14,8 @@ use Rattle.model.specs.declared.Mode.{Mode}
 use Rattle.model.specs.declared.Mode.the-variants.{Pin, Msi, Msix}
 use Rattle.model.specs.declared.Shape.{Shape}
 use Rattle.model.specs.World.{Endpoint, Registers, registers}
-use Rattle.model.specs.Vectors.{enabled, isOpen, waits, owed, vectorCount}
-use Rattle.model.proofs.SweepLaws.{open-counted}
+use Rattle.model.specs.Vectors.{enabled, isOpen, waits, owed, vectorCount, pendingBit}
+use Rattle.model.proofs.Vectors.SweepLaws.{open-counted}
 use Rattle.vectors.specs.Enabled.{msixEnabled}
 use Rattle.vectors.proofs.MsixLaws.{open-msix}
 use Rattle.vectors.proofs.CountLaws.{msi-count}
@@ -38,7 +38,7 @@ owed-among m s u k h =
 -- MSI: w has a bit for each open vector
 pub owed-msi : (s : Shape) (u : Endpoint) (w : ℕ) → s .msi .capable ≤ 5 → ((v : ℕ) → bit w v ≡ isOpen Msi s (registers u) v)
     → owed Msi s u ≡ keep (bit (bitAnd w (u .function .waiting))) (count 0 32)
-unfolding waits
+unfolding waits pendingBit
 owed-msi s u w h e =
     owed-among Msi s u 32 (msi-count s h)
     ∙ keep-same (λ v. isOpen Msi s (registers u) v && waits Msi u v) (bit (bitAnd w (u .function .waiting))) (count 0 32)

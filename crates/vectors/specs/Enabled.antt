@@ -1,6 +1,5 @@
 -- When MSI-X can send at all. Assumes nothing.
 use mathlib.Core.Bool.{Bool, not, _&&_}
-use Rattle.model.specs.declared.Mode.{Mode}
 use Rattle.model.specs.declared.Mode.the-variants.{Msix}
 use Rattle.model.specs.declared.Shape.{Shape}
 use Rattle.model.specs.World.{Registers}

@@ -1,5 +1,5 @@
 -- The message of MSI vector 0, from which every vector's differs in the low bits of the data alone. Assumes nothing.
-use Prim.Native.Nat.{ℕ, _*_, _/_}
+use Prim.Native.Nat.{_*_, _/_}
 use Rattle.model.specs.declared.Shape.{Shape}
 use Rattle.model.specs.World.{Registers}
 use Rattle.model.specs.Vectors.{granted}

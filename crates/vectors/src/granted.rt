@@ -3,7 +3,8 @@ ghost use mathlib.Core.Path.{_≡_};
 ghost use mathlib.Core.List.{List};
 ghost use Prim.Native.Nat.{ℕ, _<_, _≤_, min};
 ghost use Rattle.model.specs.Vectors.{enableField, granted};
-ghost use Rattle.vectors.specs.Given.{regs, FitShape};
+ghost use Rattle.model.specs.Fit.{FitShape};
+ghost use Rattle.vectors.specs.Given.{regs};
 use model::Shape;
 
 // The smaller of Enable and Capable.

@@ -1,5 +1,4 @@
 // Vectors of one function: the mechanism in force, who is open, waiting bits and messages.
-pub mod bits; // one bit of a byte, and of a register
 pub mod mode; // control bits and the mechanism in force
 pub mod granted; // the vectors that MSI is granted
 pub mod event; // from events to vectors

@@ -1,17 +1,19 @@
 // The message of a vector.
 ghost use mathlib.Core.Path.{_≡_};
 ghost use mathlib.Core.List.{List};
-ghost use Prim.Native.Nat.{ℕ, _+_, _*_, _<_, _≤_};
+ghost use Prim.Native.Nat.{ℕ, _+_, _*_, _/_, _<_, _≤_};
 ghost use lib.ListN.{length};
 ghost use Rattle.words.specs.Writers.{Wrote};
-ghost use Rattle.model.specs.Shape.{tableBytes};
+ghost use Rattle.model.specs.Shape.{formOf, tableBytes};
 ghost use Rattle.model.specs.Vectors.{vectorCount};
-ghost use Rattle.model.specs.Packets.{message, messageSize, messageOf, msiUpper, msiData};
-ghost use Rattle.vectors.specs.Given.{regs, FitShape};
+ghost use Rattle.model.specs.Packets.{message, messageSize, messageOf, entryMessage, msiUpper, msiData};
+ghost use Rattle.model.specs.Fit.{FitShape};
+ghost use Rattle.vectors.specs.Given.{regs, Profiled};
 ghost use Rattle.vectors.specs.Messages.{msiBase};
 use crate::granted::granted;
-use layout::form::form;
+use model::Form;
 use model::Mode;
+use model::Profile;
 use model::Shape;
 use model::Vector;
 
@@ -34,21 +36,20 @@ fn msi_upper(c: &[u8; 256], s: Shape) -> u32
 }
 
 // The 16-bit data register, where the form has it.
-fn msi_data(c: &[u8; 256], s: Shape) -> u32
-    requires { ⌜ FitShape s ⌝ }
+fn msi_data(c: &[u8; 256], s: Shape, f: Form) -> u32
+    requires { ⌜ FitShape s × (f ≡ formOf s) ⌝ }
     ensures { λ r. ⌜ ((t : List ℕ) → r ≡ msiData s (regs (now (c .entry)) t)) × (r < 65536) ⌝ }
 {
-    let f = form(s);
     words::get::word16(c, s.msi.at + f.message) as u32
 }
 
 // The message of MSI vector 0: the low bits of the data register, which a vector replaces, are 0.
-pub fn msi_base(c: &[u8; 256], s: Shape) -> Message
-    requires { ⌜ FitShape s ⌝ }
+pub fn msi_base(c: &[u8; 256], s: Shape, f: Form) -> Message
+    requires { ⌜ FitShape s × (f ≡ formOf s) ⌝ }
     ensures { λ r. ⌜ ((t : List ℕ) → r ≡ msiBase s (regs (now (c .entry)) t)) × (r .value < 65536) ⌝ }
 {
     let g = granted(c, s);
-    let data = msi_data(c, s);
+    let data = msi_data(c, s, f);
     let low = data % g;
     let upper = msi_upper(c, s);
     Message {
@@ -58,11 +59,11 @@ pub fn msi_base(c: &[u8; 256], s: Shape) -> Message
     }
 }
 
-pub fn msi_message(c: &[u8; 256], s: Shape, v: Vector) -> Message
-    requires { ⌜ FitShape s ⌝ }
+pub fn msi_message(c: &[u8; 256], s: Shape, f: Form, v: Vector) -> Message
+    requires { ⌜ FitShape s × (f ≡ formOf s) ⌝ }
     ensures { λ r. ⌜ ((requester : ℕ) (t : List ℕ) → message requester (r .upper) (r .address) (r .value) ≡ messageOf Mode.Msi s requester (regs (now (c .entry)) t) (v .0)) ⌝ }
 {
-    let base = msi_base(c, s);
+    let base = msi_base(c, s, f);
     Message {
         upper: base.upper,
         address: base.address,
@@ -82,18 +83,19 @@ pub fn msix_message(table: &[u8], v: Vector) -> Message
     }
 }
 
-// Of the mechanism m, for one of its vectors.
-pub fn vector_message(c: &[u8; 256], s: Shape, m: Mode, table: &[u8], v: Vector) -> Message
-    requires { ⌜ FitShape s × (length (now table) ≡ tableBytes s) × (v .0 < vectorCount m s) ⌝ }
-    ensures { λ r. ⌜ ((requester : ℕ) → message requester (r .upper) (r .address) (r .value) ≡ messageOf m s requester (regs (now (c .entry)) (now (table .entry))) (v .0)) ⌝ }
+// Of a vector of the mechanism in force.
+pub fn vector_message(c: &[u8; 256], k: Profile, table: &[u8], v: Vector) -> Message
+    requires { ⌜ Profiled (now c) k × (length (now table) ≡ tableBytes (k .shape)) × (v .0 < vectorCount (k .mode) (k .shape)) ⌝ }
+    ensures { λ r. ⌜ ((requester : ℕ) → message requester (r .upper) (r .address) (r .value) ≡ messageOf (k .mode) (k .shape) requester (regs (now (c .entry)) (now (table .entry))) (v .0)) ⌝ }
 {
-    match m {
+    let mode = k.mode;
+    match mode {
         Mode::Pin => Message {
             upper: 0,
             address: 0,
             value: 0,
         },
-        Mode::Msi => msi_message(c, s, v),
+        Mode::Msi => msi_message(c, k.shape, k.form, v),
         Mode::Msix => msix_message(table, v),
     }
 }
@@ -105,19 +107,14 @@ pub fn put_vector_message(out: &mut [u8], requester: u16, m: Message) -> usize
     tlp::put_message(out, requester, m.upper, m.address, m.value)
 }
 
-// Writes the message of a vector.
-pub fn put_vector(
-    out: &mut [u8],
-    requester: u16,
-    c: &[u8; 256],
-    s: Shape,
-    m: Mode,
-    table: &[u8],
-    v: Vector,
-) -> usize
-    requires { ⌜ FitShape s × (length (now table) ≡ tableBytes s) × (v .0 < vectorCount m s) × (length (messageOf m s requester (regs (now c) (now table)) (v .0)) ≤ length (now out)) ⌝ }
-    ensures { λ r. ⌜ Wrote (messageOf m s requester (regs (now (c .entry)) (now (table .entry))) (v .0)) (now (out .entry)) r (now (out .exit)) ⌝ }
+// Writes the message of entry v of an MSI-X table.
+pub fn put_entry(out: &mut [u8], table: &[u8], v: usize, requester: u16) -> usize
+    requires { ⌜ (v < length (now table) / 16) × (length (entryMessage requester (now table) v) ≤ length (now out)) ⌝ }
+    ensures { λ r. ⌜ Wrote (entryMessage requester (now (table .entry)) v) (now (out .entry)) r (now (out .exit)) ⌝ }
 {
-    let x = vector_message(c, s, m, table, v);
-    put_vector_message(out, requester, x)
+    let at = 16 * v;
+    let address = words::get::word32(table, at);
+    let upper = words::get::word32(table, at + 4);
+    let value = words::get::word32(table, at + 8);
+    tlp::put_message(out, requester, upper, address, value)
 }

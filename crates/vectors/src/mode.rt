@@ -2,14 +2,23 @@
 ghost use mathlib.Core.Path.{_≡_};
 ghost use mathlib.Core.Bool.{_&&_};
 ghost use mathlib.Core.List.{List};
-ghost use Prim.Native.Nat.{ℕ, _<_};
+ghost use Prim.Native.Nat.{ℕ, _+_, _/_, _<_};
+ghost use Rattle.words.specs.Bytes.{bitAt};
 ghost use Rattle.model.specs.Shape.{msiPresent, msixPresent};
 ghost use Rattle.model.specs.Vectors.{commandBit, msiControlBit, msixControlBit, modeOf, sameMode};
 ghost use Rattle.model.specs.Release.{isPin};
-ghost use Rattle.vectors.specs.Given.{regs, FitShape};
-use crate::bits::config_bit;
+ghost use Rattle.model.specs.Fit.{FitShape};
+ghost use Rattle.vectors.specs.Given.{regs};
 use model::Mode;
 use model::Shape;
+
+// Bit k of the register at configuration byte `at`.
+fn config_bit(c: &[u8; 256], at: usize, k: usize) -> bool
+    requires { ⌜ (at + k / 8 < 256) × (k < 32) ⌝ }
+    ensures { λ r. ⌜ r ≡ bitAt (now (c .entry)) at k ⌝ }
+{
+    words::bits::bit(c[at + k / 8], k % 8)
+}
 
 pub fn command_bit(c: &[u8; 256], k: usize) -> bool
     requires { ⌜ k < 16 ⌝ }

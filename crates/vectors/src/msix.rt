@@ -1,28 +1,24 @@
 // The open vectors of MSI-X.
 ghost use mathlib.Core.Path.{_≡_};
 ghost use mathlib.Core.List.{List};
-ghost use Prim.Native.Nat.{ℕ, _+_, _*_, _<_, _≤_};
+ghost use Prim.Native.Nat.{ℕ, _+_, _*_, _≤_};
 ghost use lib.ListN.{length};
 ghost use Rattle.model.specs.Shape.{tableBytes};
 ghost use Rattle.model.specs.Vectors.{masked, isOpen};
-ghost use Rattle.vectors.specs.Given.{regs, FitShape};
+ghost use Rattle.model.specs.Fit.{FitShape};
+ghost use Rattle.vectors.specs.Given.{regs, InForce};
 ghost use Rattle.vectors.specs.Enabled.{msixEnabled};
 use crate::mode::command_bit;
-use crate::mode::is_msix;
-use crate::mode::mode;
 use crate::mode::msix_control_bit;
 use model::Mode;
 use model::Shape;
 use model::Vector;
 
-// MSI-X is in force, Function Mask 0, Command bit 2 set.
+// MSI-X is in force. Whether it can send: Function Mask 0, Command bit 2 set.
 pub fn msix_enabled(c: &[u8; 256], s: Shape) -> bool
-    requires { ⌜ FitShape s ⌝ }
+    requires { ⌜ FitShape s × InForce Mode.Msix s (now c) ⌝ }
     ensures { λ r. ⌜ ((t : List ℕ) → r ≡ msixEnabled s (regs (now (c .entry)) t)) ⌝ }
 {
-    if !is_msix(mode(c, s)) {
-        return false;
-    }
     if msix_control_bit(c, s, 14) {
         return false;
     }
@@ -39,7 +35,7 @@ pub fn entry_masked(table: &[u8], v: usize) -> bool
 
 // Vector v is open.
 pub fn msix_is_open(c: &[u8; 256], s: Shape, table: &[u8], v: Vector) -> bool
-    requires { ⌜ FitShape s × (length (now table) ≡ tableBytes s) ⌝ }
+    requires { ⌜ FitShape s × (length (now table) ≡ tableBytes s) × InForce Mode.Msix s (now c) ⌝ }
     ensures { λ r. ⌜ r ≡ isOpen Mode.Msix s (regs (now (c .entry)) (now (table .entry))) (v .0) ⌝ }
 {
     let n = v.0 as usize;

@@ -2,12 +2,10 @@
 ghost use mathlib.Core.Path.{_≡_};
 ghost use Prim.Native.Nat.{_/_, _%_, _<_};
 ghost use lib.ListN.{length, set};
-ghost use Rattle.words.specs.Bits.{bit, setBit};
+ghost use Rattle.words.specs.Bits.{bit, setBit, clearBit};
 ghost use Rattle.words.specs.Bytes.{byte};
 ghost use Rattle.model.specs.World.{Endpoint, withWaiting};
 ghost use Rattle.model.specs.Vectors.{waits};
-use crate::bits::bit;
-use crate::bits::word_bit;
 use model::Mode;
 use model::Vector;
 
@@ -18,7 +16,7 @@ fn msi_waits(waiting: u32, v: Vector) -> bool
     if 32 <= n {
         return false;
     }
-    word_bit(waiting, n)
+    words::bits::word_bit(waiting, n)
 }
 
 fn msix_waits(pending: &[u8], v: Vector) -> bool
@@ -29,7 +27,7 @@ fn msix_waits(pending: &[u8], v: Vector) -> bool
     if pending.len() <= i {
         return false;
     }
-    bit(pending[i], n % 8)
+    words::bits::bit(pending[i], n % 8)
 }
 
 // Vector v of the mechanism m waits, in a function with these waiting bits.
@@ -60,4 +58,15 @@ pub fn set_pending(pending: &mut [u8], v: Vector)
     let i = n / 8;
     let one: u8 = 1 << (n % 8);
     pending[i] = one | pending[i];
+}
+
+// And cleared.
+pub fn clear_pending(pending: &mut [u8], v: Vector)
+    requires { ⌜ v .0 / 8 < length (now pending) ⌝ }
+    ensures { λ r. ⌜ now (pending .exit) ≡ set (now (pending .entry)) (v .0 / 8) (clearBit (byte (now (pending .entry)) (v .0 / 8)) (v .0 % 8)) ⌝ }
+{
+    let n = v.0 as usize;
+    let i = n / 8;
+    let one: u8 = 1 << (n % 8);
+    pending[i] = !one & pending[i];
 }

@@ -1,7 +1,7 @@
 -- The level that the wire should have, by each way to find it, and the packet owed. Assumes nothing.
 use mathlib.Core.Path.{_≡_, refl, sym, ap, _∙_}
-use mathlib.Core.Bool.{Bool, true, false, not, cond, _&&_, Bool·beq, and-false, and-true}
-use mathlib.Core.List.{List, []}
+use mathlib.Core.Bool.{Bool, true, false, not, _&&_, Bool·beq, and-false, and-true}
+use mathlib.Core.List.{List}
 use Prim.Native.Nat.{ℕ, _≤_}
 use Rattle.words.specs.Writers.{Wrote}
 use native.Mathlib.Omega.{arith}
@@ -14,31 +14,32 @@ use Rattle.model.specs.declared.Shape.{Shape}
 use Rattle.model.specs.World.{Registers}
 use Rattle.model.specs.Vectors.{modeOf, commandBit}
 use Rattle.model.specs.Packets.{wireMessage}
-use Rattle.model.specs.Release.{isPin, pinNumber, wireDue, wireChange}
-use Rattle.model.proofs.PacketLaws.{wire-length}
+use Rattle.model.specs.Release.{isPin, pinNumber, levelDue, wireDue, wireChange}
+use Rattle.model.proofs.Vectors.PacketLaws.{wire-length}
 use Rattle.wire.specs.declared.Wiring.{Wiring}
 use Rattle.wire.specs.declared.Wired.{Wired}
 use Rattle.wire.specs.declared.Owed.{Owed}
 use Rattle.wire.specs.declared.Owed.the-variants.{Nothing, Assert, Deassert}
-use Rattle.wire.specs.Wires.{dueOf, owedOf, wiring, withLevel, withLine, withMode, bytesOwed, sizeOf}
+use Rattle.wire.specs.Wires.{dueOf, owedOf, wiring, wiringOf, withLevel, withLine, withMode, bytesOwed, sizeOf}
 
 -- ---- the level
 
-pub due-low : (w : Wiring) → not (w .line) ≡ true → false ≡ dueOf w
-unfolding dueOf
-due-low w e = rw (not-true (w .line) e)
+module _ (line : Bool) (m : Mode) (pin : ℕ) (disabled : Bool) where
+  pub due-low : not line ≡ true → false ≡ levelDue line m pin disabled
+  unfolding levelDue
+  due-low e = rw (not-true line e)
 
-pub due-no-pin : (w : Wiring) → w .pin ≡ 0 → false ≡ dueOf w
-unfolding dueOf
-due-no-pin w e = rw (eq-eqb (w .pin) 0 e) (sym (ap (λ (b : Bool). b && not (w .disabled)) (and-false (w .line && isPin (w .mode)))))
+  pub due-no-pin : pin ≡ 0 → false ≡ levelDue line m pin disabled
+  unfolding levelDue
+  due-no-pin e = rw (eq-eqb pin 0 e) (sym (ap (λ (b : Bool). b && not disabled) (and-false (line && isPin m))))
 
-pub due-disabled : (w : Wiring) → w .disabled ≡ true → false ≡ dueOf w
-unfolding dueOf
-due-disabled w e = rw e (sym (and-false (w .line && isPin (w .mode) && not (eqb (w .pin) 0))))
+  pub due-disabled : disabled ≡ true → false ≡ levelDue line m pin disabled
+  unfolding levelDue
+  due-disabled e = rw e (sym (and-false (line && isPin m && not (eqb pin 0))))
 
-pub due-mode : (w : Wiring) (m : Mode) → not (w .line) ≡ false → (w .pin ≡ 0 → ⊥) → w .disabled ≡ false → w .mode ≡ m → isPin m ≡ dueOf w
-unfolding dueOf
-due-mode w m l p d e = rw (not-false (w .line) l, ne-eqb (w .pin) 0 p, d, e) (sym (and-true (isPin m && true) ∙ and-true (isPin m)))
+  pub due-mode : (n : Mode) → not line ≡ false → (pin ≡ 0 → ⊥) → disabled ≡ false → m ≡ n → isPin n ≡ levelDue line m pin disabled
+  unfolding levelDue
+  due-mode n l p d e = rw (not-false line l, ne-eqb pin 0 p, d, e) (sym (and-true (isPin n && true) ∙ and-true (isPin n)))
 
 -- ---- the packet owed
 
@@ -74,7 +75,8 @@ pub owed-nothing : (o : Owed) (requester pin : ℕ) (out : List ℕ) → o ≡ N
 unfolding bytesOwed
 owed-nothing o requester pin out e = rw e (record { count = refl; bytes = refl })
 
-pub owed-level : (o : Owed) (b : Bool) (requester pin r : ℕ) (out out′ : List ℕ) → o ≡ packetOf b → Wrote (wireMessage requester pin b) out r out′ → Wrote (bytesOwed o requester pin) out r out′
+pub owed-level : (o : Owed) (b : Bool) (requester pin r : ℕ) (out out′ : List ℕ) → o ≡ packetOf b → Wrote (wireMessage requester pin b) out r out′
+    → Wrote (bytesOwed o requester pin) out r out′
 unfolding bytesOwed
 owed-level o true requester pin r out out′ e w = rw e w
 owed-level o false requester pin r out out′ e w = rw e w
@@ -86,10 +88,6 @@ owed-room o false n e h = rw e at h
 
 -- ---- the definitions' wire
 
-pub due-is : (s : Shape) (line wire : Bool) (r : Registers) → dueOf (wiring line wire (modeOf s r) (pinNumber r) (commandBit r 10)) ≡ wireDue s line r
-unfolding dueOf wireDue
-due-is s line wire r = refl
-
 pub owed-is : (requester : ℕ) (r : Registers) (before level : Bool) → bytesOwed (owedOf before level) requester (pinNumber r) ≡ wireChange requester r before level
 unfolding owedOf wireChange bytesOwed
 owed-is requester r true true = refl
@@ -97,23 +95,23 @@ owed-is requester r true false = refl
 owed-is requester r false true = refl
 owed-is requester r false false = refl
 
--- the state as the registers have it
-abbrev pub wiringOf : Shape → Bool → Bool → Registers → Wiring
-wiringOf s line wire r = wiring line wire (modeOf s r) (pinNumber r) (commandBit r 10)
-
-pub wiring-is : (s : Shape) (line wire : Bool) (r : Registers) (m : Mode) (p : ℕ) (d : Bool) → m ≡ modeOf s r → p ≡ pinNumber r → d ≡ commandBit r 10 → wiring line wire m p d ≡ wiringOf s line wire r
+pub wiring-is : (s : Shape) (line wire : Bool) (r : Registers) (m : Mode) (p : ℕ) (d : Bool) → m ≡ modeOf s r → p ≡ pinNumber r → d ≡ commandBit r 10
+    → wiring line wire m p d ≡ wiringOf s line wire r
 wiring-is s line wire r m p d em ep ed = rw (em, ep, ed)
 
--- the wire goes to the level that it should have: with the mechanism in force and Command bit 10 as they are, and with another level of the line
-module _ (v : Wiring) (w : Wired) (s : Shape) (line wire : Bool) (r : Registers) (e : v ≡ wiringOf s line wire r) where
-  settled-wire : (level : Bool) → w ≡ withLevel (wiringOf s level wire r) (dueOf (wiringOf s level wire r)) → w ≡ withLevel (wiringOf s level wire r) (wireDue s level r)
-  settled-wire level q = q ∙ ap (withLevel (wiringOf s level wire r)) (due-is s level wire r)
+pub due-is : (s : Shape) (line wire : Bool) (r : Registers) → dueOf (wiringOf s line wire r) ≡ wireDue s line r
+unfolding wireDue
+due-is s line wire r = refl
 
-  pub settled-mode : w ≡ withMode v (v .mode) (v .disabled) → w ≡ withLevel (wiringOf s line wire r) (wireDue s line r)
-  settled-mode q = settled-wire line (rw e at q)
+-- the wire goes to the level that it should have: with another level of the line, and with another mechanism and Command bit 10
+pub settled-line : (s : Shape) (line wire level : Bool) (r : Registers) → withLine (wiringOf s line wire r) level ≡ withLevel (wiringOf s level wire r) (wireDue s level r)
+unfolding wireDue
+settled-line s line wire level r = refl
 
-  pub settled-line : (level : Bool) → w ≡ withLine v level → w ≡ withLevel (wiringOf s level wire r) (wireDue s level r)
-  settled-line level q = settled-wire level (rw e at q)
+pub settled-mode : (v : Wiring) (s : Shape) (line wire : Bool) (r : Registers) (m : Mode) (d : Bool) → v .line ≡ line → v .wire ≡ wire → v .pin ≡ pinNumber r
+    → m ≡ modeOf s r → d ≡ commandBit r 10 → withMode v m d ≡ withLevel (wiringOf s line wire r) (wireDue s line r)
+unfolding wireDue
+settled-mode v s line wire r m d el ew ep em ed = rw (el, ew, ep, em, ed)
 
 -- the level, and the packet owed
 pub at-level : (v : Wiring) (w : Wired) (level : Bool) → w ≡ withLevel v level → (w .wiring .wire ≡ level) × (w .owed ≡ owedOf (v .wire) level)

@@ -5,7 +5,7 @@ use Prim.Native.Nat.{ℕ, zero, suc, _+_, _-_, _*_, _/_, _%_, _^_, _≤_, _<_, m
 use native.Mathlib.Nat.{pow-suc, div-one, mod-lt, mod-eq-of-lt, div-eq-of-lt, sub-zero, zero-mul, one-mul}
 use native.Mathlib.Numerals.{one-add, add-one}
 use native.Mathlib.Omega.{arith}
-use lib.Bits.{bitAnd, bitOr, and-step, and-shr, and-mod, and-mask, or-shr, or-mod, and-lt, or-lt, and-le-r}
+use lib.Bits.{bitAnd, bitOr, and-step, and-shr, and-mod, and-mask, or-shr, or-mod, and-lt, and-le-r}
 use lib.Dec.{eqb, ltb, eqb·suc-suc}
 use lib.Pow.{shr-shr, pow-pos, pow-lt, pow-mono, mod-pow-add}
 use mir.Val.{boolByte}
@@ -29,31 +29,28 @@ bit-of-zero (suc i) = bit-suc 0 i ∙ bit-of-zero i
 
 -- ---- and, or
 
-one-and : (a b : ℕ) → a < 2 → b < 2 → eqb (bitAnd a b) 1 ≡ (eqb a 1 && eqb b 1)
-one-and zero b h j = refl
-one-and (suc zero) zero h j = refl
-one-and (suc zero) (suc zero) h j = refl
-one-and (suc zero) (suc (suc b)) h j = absurd (omega arith)
-one-and (suc (suc a)) b h j = absurd (omega arith)
-
-one-or : (a b : ℕ) → a < 2 → b < 2 → eqb (bitOr a b) 1 ≡ (eqb a 1 || eqb b 1)
-one-or zero b h j = refl
-one-or (suc zero) zero h j = refl
-one-or (suc zero) (suc zero) h j = refl
-one-or (suc zero) (suc (suc b)) h j = absurd (omega arith)
-one-or (suc (suc a)) b h j = absurd (omega arith)
+-- a function of two digits, by its four cases
+digits : (f : ℕ → ℕ → ℕ) (g : Bool → Bool → Bool) → eqb (f 0 0) 1 ≡ g false false → eqb (f 0 1) 1 ≡ g false true
+    → eqb (f 1 0) 1 ≡ g true false → eqb (f 1 1) 1 ≡ g true true → (a b : ℕ) → a < 2 → b < 2 → eqb (f a b) 1 ≡ g (eqb a 1) (eqb b 1)
+digits f g ff ft tf tt zero zero h j = ff
+digits f g ff ft tf tt zero (suc zero) h j = ft
+digits f g ff ft tf tt zero (suc (suc b)) h j = absurd (omega arith)
+digits f g ff ft tf tt (suc zero) zero h j = tf
+digits f g ff ft tf tt (suc zero) (suc zero) h j = tt
+digits f g ff ft tf tt (suc zero) (suc (suc b)) h j = absurd (omega arith)
+digits f g ff ft tf tt (suc (suc a)) b h j = absurd (omega arith)
 
 pub bit-and : (x y k : ℕ) → bit (bitAnd x y) k ≡ (bit x k && bit y k)
 unfolding bit
 bit-and x y k =
     ap (λ (z : ℕ). eqb z 1) (ap (λ (z : ℕ). z % 2) (and-shr x y k) ∙ and-mod (x / 2 ^ k) (y / 2 ^ k) 1)
-    ∙ one-and (x / 2 ^ k % 2) (y / 2 ^ k % 2) (mod-lt (x / 2 ^ k) (omega arith)) (mod-lt (y / 2 ^ k) (omega arith))
+    ∙ digits bitAnd _&&_ refl refl refl refl (x / 2 ^ k % 2) (y / 2 ^ k % 2) (mod-lt (x / 2 ^ k) (omega arith)) (mod-lt (y / 2 ^ k) (omega arith))
 
 pub bit-or : (x y k : ℕ) → bit (bitOr x y) k ≡ (bit x k || bit y k)
 unfolding bit
 bit-or x y k =
     ap (λ (z : ℕ). eqb z 1) (ap (λ (z : ℕ). z % 2) (or-shr x y k) ∙ or-mod (x / 2 ^ k) (y / 2 ^ k) 1)
-    ∙ one-or (x / 2 ^ k % 2) (y / 2 ^ k % 2) (mod-lt (x / 2 ^ k) (omega arith)) (mod-lt (y / 2 ^ k) (omega arith))
+    ∙ digits bitOr _||_ refl refl refl refl (x / 2 ^ k % 2) (y / 2 ^ k % 2) (mod-lt (x / 2 ^ k) (omega arith)) (mod-lt (y / 2 ^ k) (omega arith))
 
 -- ---- clear
 
@@ -72,19 +69,10 @@ clear-odd m x =
     let h : bitAnd (m / 2) (x / 2) ≤ x / 2 = and-le-r (m / 2) (x / 2) in
     rw e (omega arith)
 
-digit : (a b : ℕ) → a < 2 → b < 2 → eqb (b - min a b) 1 ≡ (eqb b 1 && not (eqb a 1))
-digit zero zero h j = refl
-digit zero (suc zero) h j = refl
-digit zero (suc (suc b)) h j = absurd (omega arith)
-digit (suc zero) zero h j = refl
-digit (suc zero) (suc zero) h j = refl
-digit (suc zero) (suc (suc b)) h j = absurd (omega arith)
-digit (suc (suc a)) b h j = absurd (omega arith)
-
 pub bit-clear : (m x k : ℕ) → bit (clear m x) k ≡ (bit x k && not (bit m k))
 bit-clear m x zero =
     bit-zero (clear m x) ∙ ap (λ (n : ℕ). eqb n 1) (clear-odd m x)
-    ∙ digit (m % 2) (x % 2) (mod-lt m (omega arith)) (mod-lt x (omega arith))
+    ∙ digits (λ a b. b - min a b) (λ a b. b && not a) refl refl refl refl (m % 2) (x % 2) (mod-lt m (omega arith)) (mod-lt x (omega arith))
     ∙ sym (ap₂ (λ (a b : Bool). a && not b) (bit-zero x) (bit-zero m))
 bit-clear m x (suc k) =
     bit-suc (clear m x) k ∙ ap (λ (n : ℕ). bit n k) (clear-half m x) ∙ bit-clear (m / 2) (x / 2) k

@@ -6,7 +6,7 @@ use Prim.Native.Nat.{ℕ, _≤_}
 use native.Mathlib.Omega.{arith}
 use lib.Dec.{T, ltb, leb, eqb}
 use borrow.Author.Tests.{eq-eqb, eqb-true, eqb-false, lt-ltb, le-ltb, le-leb, ltb-false, not-true}
-use Rattle.words.specs.Lists.{firstOf, numbered}
+use Rattle.words.specs.Lists.{firstOf, lacks}
 
 pub both : (a b : Bool) → (a && b) ≡ true → (a ≡ true) × (b ≡ true)
 both true b e = (refl, e)
@@ -15,6 +15,9 @@ both false b e = absurd (false≢true e)
 pub neither : (a b : Bool) → (a || b) ≡ false → (a ≡ false) × (b ≡ false)
 neither true b e = absurd (true≢false e)
 neither false b e = (refl, e)
+
+pub or-intro : (a b : Bool) → a ≡ false → b ≡ false → (a || b) ≡ false
+or-intro a b p q = rw p q
 
 pub and-intro : (a b : Bool) → a ≡ true → b ≡ true → (a && b) ≡ true
 and-intro a b p q = rw p q
@@ -107,13 +110,27 @@ pub row-refuses : (n : ℕ) {t : Bool} (rs : List (ℕ × Bool)) → t ≡ true 
 unfolding firstOf
 row-refuses n rs e = rw e
 
+-- what is true of 0 and of a row's number
+pub first-elim : (P : ℕ → Type 0) (n : ℕ) (t : Bool) (rs : List (ℕ × Bool)) → P n → P (firstOf rs) → P (firstOf ((n, t) ∷ rs))
+unfolding firstOf
+first-elim P n true rs p q = p
+first-elim P n false rs p q = q
+
+-- a number that no row has is not the first
+pub first-lacks : (k : ℕ) (rs : List (ℕ × Bool)) → eqb 0 k ≡ false → lacks k rs ≡ true → eqb (firstOf rs) k ≡ false
+unfolding firstOf lacks
+first-lacks k [] z e = z
+first-lacks k (x ∷ rs) z e =
+    let b = both (not (eqb (x .0) k)) (lacks k rs) e in
+    first-elim (λ n. eqb n k ≡ false) (x .0) (x .1) rs (not-true (eqb (x .0) k) (b .0)) (first-lacks k rs z (b .1))
+
 -- rows, and rows behind them
-pub first-append : (l r : List (ℕ × Bool)) → numbered l ≡ true → firstOf (l ++ r) ≡ cond (eqb (firstOf l) 0) (firstOf r) (firstOf l)
-unfolding firstOf numbered
+pub first-append : (l r : List (ℕ × Bool)) → lacks 0 l ≡ true → firstOf (l ++ r) ≡ cond (eqb (firstOf l) 0) (firstOf r) (firstOf l)
+unfolding firstOf lacks
 first-append [] r e = refl
-first-append (x ∷ l) r e = go (x .1) (first-append l r (both (not (eqb (x .0) 0)) (numbered l) e .1))
+first-append (x ∷ l) r e = go (x .1) (first-append l r (both (not (eqb (x .0) 0)) (lacks 0 l) e .1))
   where
     go : (t : Bool) → firstOf (l ++ r) ≡ cond (eqb (firstOf l) 0) (firstOf r) (firstOf l)
         → cond t (x .0) (firstOf (l ++ r)) ≡ cond (eqb (cond t (x .0) (firstOf l)) 0) (firstOf r) (cond t (x .0) (firstOf l))
-    go true h = ap (λ (b : Bool). cond b (firstOf r) (x .0)) (sym (not-true (eqb (x .0) 0) (both (not (eqb (x .0) 0)) (numbered l) e .0)))
+    go true h = ap (λ (b : Bool). cond b (firstOf r) (x .0)) (sym (not-true (eqb (x .0) 0) (both (not (eqb (x .0) 0)) (lacks 0 l) e .0)))
     go false h = h

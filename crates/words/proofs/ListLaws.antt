@@ -4,10 +4,12 @@ use mathlib.Core.Bool.{Bool, true, false, cond, _&&_, _||_, false≢true, and-as
 use mathlib.Core.List.{List, [], _∷_, _++_, map, append-assoc, append-nil}
 use Prim.Native.Nat.{ℕ, zero, suc, _+_, _-_, _*_, _%_, _≤_, _<_}
 use native.Mathlib.Nat.{zero-add, mul-suc}
+use native.Mathlib.Numerals.{add-one}
 use native.Mathlib.Omega.{arith}
 use lib.Dec.{ltb, leb, eqb}
-use lib.ListN.{length, getD, length-append}
-use borrow.Author.Tests.{eq-eqb, eqb-true, eqb-false, lt-ltb, le-ltb, le-leb, ltb-true, ltb-false, leb-true}
+use lib.ListN.{length, drop, getD, length-append, drop-of-length-le}
+use lib.Seq.{drop-cons}
+use borrow.Author.Tests.{eq-eqb, ne-eqb, eqb-true, eqb-false, lt-ltb, le-ltb, le-leb, ltb-true, ltb-false, leb-true}
 use Rattle.words.specs.Lists.{count, keep, all, member, join, eachAt, allAt, same, within}
 use Rattle.words.specs.Bytes.{byte}
 use Rattle.words.proofs.BoolLaws.{both, and-intro, same-test, by-test}
@@ -341,6 +343,23 @@ pub same-refl : (l : List ℕ) → same l l ≡ true
 unfolding same
 same-refl [] = refl
 same-refl (x ∷ l) = and-intro (eqb x x) (same l l) (eq-eqb x x refl) (same-refl l)
+
+-- the lists from place i on
+module _ (l m : List ℕ) (i : ℕ) (h : i < length l) (j : i < length m) where
+  pub same-next : byte l i ≡ byte m i → same (drop (i + 1) l) (drop (i + 1) m) ≡ same (drop i l) (drop i m)
+  unfolding same
+  same-next e = rw (add-one i, drop-cons l i 0 h, drop-cons m i 0 j, eq-eqb (byte l i) (byte m i) e)
+
+  pub same-differs : (byte l i ≡ byte m i → ⊥) → same (drop i l) (drop i m) ≡ false
+  unfolding same
+  same-differs n = rw (drop-cons l i 0 h, drop-cons m i 0 j, ne-eqb (byte l i) (byte m i) n)
+
+pub same-past : (l m : List ℕ) (i : ℕ) → length l ≤ i → length m ≤ i → same (drop i l) (drop i m) ≡ true
+unfolding same
+same-past l m i h j = rw (drop-of-length-le l {i = i} h, drop-of-length-le m {i = i} j)
+
+pub other-lengths : (l m : List ℕ) → (length l ≡ length m → ⊥) → false ≡ same l m
+other-lengths l m n = same-test false (same l m) (λ e. absurd (false≢true e)) (λ e. absurd (n (ap length (same-true l m e))))
 
 -- ---- a test that one number at most passes
 

@@ -49,13 +49,6 @@ lowest-within k w v u l =
     by-test (ltb v k) (λ e. ltb-true v k e)
     (λ e. absurd (false≢true (sym (bit-above k w v u (ltb-false v k e)) ∙ l .set)))
 
-not-below : (w v v′ : ℕ) → Lowest w v → Lowest w v′ → v′ ≤ v
-not-below w v v′ l l′ =
-    by-test (ltb v v′) (λ e. absurd (false≢true (sym (l′ .first v (ltb-true v v′ e)) ∙ l .set))) (λ e. ltb-false v v′ e)
-
-pub lowest-only : (w v v′ : ℕ) → Lowest w v → Lowest w v′ → v ≡ v′
-lowest-only w v v′ l l′ = omega (arith, not-below w v v′ l l′, not-below w v′ v l′ l)
-
 -- ---- a set bit is cleared by a difference
 
 power-in : (w v : ℕ) → bit w v ≡ true → bitAnd (2 ^ v) w ≡ 2 ^ v

@@ -1,12 +1,12 @@
 -- The laws of writers: a call on a part of a lent output seen from the whole, and two writers one behind the other. Assumes nothing.
-use mathlib.Core.Path.{_≡_, refl, sym, ap, _∙_}
-use mathlib.Core.List.{List, [], _∷_, _++_, append-assoc, append-nil}
+use mathlib.Core.Path.{_≡_, sym, ap, _∙_}
+use mathlib.Core.List.{List, [], _++_, append-assoc, append-nil}
 use Prim.Native.Nat.{ℕ, _+_, _-_, _≤_, zero-le}
 use native.Mathlib.Nat.{zero-add}
 use native.Mathlib.Omega.{arith}
-use lib.ListN.{length, take, drop, length-append, length-take, length-drop, drop-of-length-le}
+use lib.ListN.{length, take, drop, length-append, length-drop, drop-of-length-le}
 use lib.Seq.{take-all, take-at, drop-at, drop-drop, length-take-le}
-use borrow.Rule.Slice.PartMut.{putMid, midOf, postOf}
+use borrow.Rule.Slice.PartMut.{putMid, midOf}
 use Rattle.words.specs.Writers.{over, putAt, Wrote}
 
 -- what a call that was lent `&mut out[a..]` and put p over it leaves of the whole
@@ -42,3 +42,11 @@ both p q o o₁ o₂ at n w e f = record {
 pub behind : (p q o o₁ ys : List ℕ) (at n : ℕ) → Wrote p o at o₁ → Wrote q (midOf at (length o₁ - at) o₁) n ys
     → Wrote (p ++ q) o (at + n) (putMid at (length o₁ - at) o₁ ys)
 behind p q o o₁ ys at n w v = both p q o o₁ _ at n w (v .count) (placed o₁ at q ys (v .bytes))
+
+-- ---- what a writer put at the start of an output
+
+pub wrote-within : {p o o′ : List ℕ} {r : ℕ} → Wrote p o r o′ → r ≤ length o′
+wrote-within {p} {o} w = rw (w .count, w .bytes, length-append) (omega arith)
+
+pub wrote-front : {p o o′ : List ℕ} {r : ℕ} → Wrote p o r o′ → take r o′ ≡ p
+wrote-front {p} {o} {o′} {r} w = rw (w .bytes) (take-at p (drop (length p) o) r (sym (w .count)))

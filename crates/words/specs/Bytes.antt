@@ -33,6 +33,13 @@ word32 l i = number (byte l) i 4
 unfoldable pub word64 : List ℕ → ℕ → ℕ
 word64 l i = number (byte l) i 8
 
+-- the numbers of two and four bytes from place i on, the highest byte first
+abbrev pub high16 : List ℕ → ℕ → ℕ
+high16 l i = byte l i * 256 + byte l (i + 1)
+
+abbrev pub high32 : List ℕ → ℕ → ℕ
+high32 l i = high16 l i * 65536 + high16 l (i + 2)
+
 -- n numbers of four bytes, one behind another
 unfoldable pub words32 : ℕ → List ℕ → List ℕ
 words32 zero l = []

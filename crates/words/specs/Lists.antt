@@ -59,7 +59,7 @@ unfoldable pub firstOf : List (ℕ × Bool) → ℕ
 firstOf [] = 0
 firstOf (r ∷ rs) = cond (r .1) (r .0) (firstOf rs)
 
--- no row has the number 0
-unfoldable pub numbered : List (ℕ × Bool) → Bool
-numbered [] = true
-numbered (r ∷ rs) = not (eqb (r .0) 0) && numbered rs
+-- no row has the number k
+unfoldable pub lacks : ℕ → List (ℕ × Bool) → Bool
+lacks k [] = true
+lacks k (r ∷ rs) = not (eqb (r .0) k) && lacks k rs

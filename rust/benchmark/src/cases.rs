@@ -252,7 +252,7 @@ fn line(state: &Second) -> (Calls, Calls) {
         let refusal = raw::line(
             &mut p.card,
             &p.table,
-            &mut p.pending,
+            &p.pending,
             level,
             &mut p.out,
             &mut count,

@@ -2,7 +2,7 @@
 //! the card is saved and restored, and the interrupt is sent when the channel
 //! is unmasked.
 
-use musgarento::{Card, Packets, Refusal};
+use musgarento::{BarError, Card, EventError, Packets, Refusal, Start};
 
 /// Where the card has its MSI-X capability, table and pending array.
 const MSIX: usize = 0x40;
@@ -42,7 +42,7 @@ fn show(done: &str, packets: Packets<'_>) {
 }
 
 /// Makes an event of the channel and prints what became of it.
-fn show_event(card: &mut Card) -> Result<(), Refusal> {
+fn show_event(card: &mut Card) -> Result<(), EventError> {
     let event = card.event(CHANNEL)?;
     let done = format!("Event of channel {CHANNEL}: {:?}", event.answer);
     show(&done, event.packets);
@@ -50,7 +50,7 @@ fn show_event(card: &mut Card) -> Result<(), Refusal> {
 }
 
 /// Sets or clears the mask bit of the channel's table entry.
-fn show_mask(card: &mut Card, mask: bool) -> Result<(), Refusal> {
+fn show_mask(card: &mut Card, mask: bool) -> Result<(), BarError> {
     let control = 16 * u32::from(CHANNEL) + 12;
     let done = format!("Mask bit of channel {CHANNEL} := {}", u8::from(mask));
     show(&done, card.bar_write(BAR, control, 4, u64::from(mask))?);
@@ -58,14 +58,19 @@ fn show_mask(card: &mut Card, mask: bool) -> Result<(), Refusal> {
 }
 
 /// Prints the first word of the pending array.
-fn show_pending(card: &Card) -> Result<(), Refusal> {
+fn show_pending(card: &Card) -> Result<(), BarError> {
     let bits = card.bar_read(BAR, PENDING_AT, 8)?;
     println!("    pending array: {bits:04b}");
     Ok(())
 }
 
 fn main() -> Result<(), Refusal> {
-    let mut card = Card::start(&configuration(), &[0x1000; 6], CHANNELS, 0x0100)?;
+    let mut card = Card::start(&Start {
+        config: configuration(),
+        sizes: [0x1000; 6],
+        events: CHANNELS,
+        requester: 0x0100,
+    })?;
     println!("Start of a card with {} MSI-X vectors", card.vectors());
 
     show(
@@ -89,9 +94,9 @@ fn main() -> Result<(), Refusal> {
     show_event(&mut card)?;
     show_pending(&card)?;
 
-    let image = card.save()?;
+    let image = card.save();
     println!("Save: an image of {} bytes", image.len());
-    show("Reset: nothing waits any more", card.reset()?);
+    show("Reset: nothing waits any more", card.reset());
     card.restore(&image)?;
     println!("Restore of the image");
     show_pending(&card)?;

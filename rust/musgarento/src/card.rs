@@ -1,11 +1,16 @@
 //! The card.
 
 use crate::layout::{
-    image_vectors, pending_bytes, table_bytes, vectors, CARD_BYTES, FIXED_BYTES, PACKET_BYTES,
+    image_vectors, packet_bytes, pending_bytes, table_bytes, vectors, CARD_BYTES, COMMAND_AT,
+    EVENTS_AT, FIXED_BYTES, MSI_WAITING_AT, REQUESTER_AT,
 };
 use crate::packet::Packets;
 use crate::raw;
-use crate::refusal::Refusal;
+use crate::refusal::{
+    BarError, ConfigError, EventError, ImageError, Refusal, RestoreError, StartError,
+};
+use crate::start::Start;
+use std::fmt;
 
 /// What became of an accepted event.
 #[derive(Clone, Copy, Debug, PartialEq, Eq, Hash)]
@@ -46,12 +51,23 @@ pub struct Event<'a> {
 /// A card with its table, its pending array and room for what it sends.
 ///
 /// Two cards are equal if their registers, waiting bits, line and wire are.
-#[derive(Clone, Debug)]
 pub struct Card {
     state: [u8; CARD_BYTES],
     table: Vec<u8>,
     pending: Vec<u8>,
+    /// Room for the packets of any call; its contents do not belong to the card.
     out: Vec<u8>,
+}
+
+impl Clone for Card {
+    fn clone(&self) -> Card {
+        Card {
+            state: self.state,
+            table: self.table.clone(),
+            pending: self.pending.clone(),
+            out: vec![0; self.out.len()],
+        }
+    }
 }
 
 impl PartialEq for Card {
@@ -62,16 +78,49 @@ impl PartialEq for Card {
 
 impl Eq for Card {}
 
-/// The number that a call returned, as a result.
-fn accepted(number: u8) -> Result<(), Refusal> {
-    match Refusal::from_number(number) {
-        Some(refusal) => Err(refusal),
-        // The contracts of the proved calls allow no other number.
-        None => {
-            assert_eq!(number, 0, "a refusal that the rules do not have");
-            Ok(())
-        }
+/// A summary: what the card was started with, Command, line, wire and how many
+/// vectors wait.
+impl fmt::Debug for Card {
+    fn fmt(&self, f: &mut fmt::Formatter<'_>) -> fmt::Result {
+        let number = |at| u16::from_le_bytes([self.state[at], self.state[at + 1]]);
+        let waiting = |bytes: &[u8]| bytes.iter().map(|byte| byte.count_ones()).sum::<u32>();
+        f.debug_struct("Card")
+            .field("events", &number(EVENTS_AT))
+            .field("requester", &format_args!("{:#06X}", number(REQUESTER_AT)))
+            .field("vectors", &self.vectors())
+            .field("command", &format_args!("{:#06X}", number(COMMAND_AT)))
+            .field("line", &self.is_line_high())
+            .field("wire", &self.is_wire_active())
+            .field("msi_waiting", &waiting(&self.state[MSI_WAITING_AT]))
+            .field("msix_waiting", &waiting(&self.pending))
+            .finish_non_exhaustive()
     }
+}
+
+/// The result that the number returned by a call stands for.
+fn accepted<E: TryFrom<Refusal>>(number: u8) -> Result<(), E> {
+    if number == 0 {
+        return Ok(());
+    }
+    let refusal = Refusal::from_number(number);
+    match refusal.and_then(|refusal| E::try_from(refusal).ok()) {
+        Some(error) => Err(error),
+        None => unexpected(number),
+    }
+}
+
+/// The same for a call that is never refused.
+fn never_refused(number: u8) {
+    if number != 0 {
+        unexpected(number);
+    }
+}
+
+/// A card of this crate is sound, its buffers fit and its output has room. The
+/// rules then give no other refusal than those in the error types.
+#[cold]
+fn unexpected(number: u8) -> ! {
+    panic!("refusal {number} of a card that cannot meet it");
 }
 
 impl Card {
@@ -81,52 +130,34 @@ impl Card {
             state: [0; CARD_BYTES],
             table: vec![0; table_bytes(vectors)],
             pending: vec![0; pending_bytes(vectors)],
-            out: vec![0; PACKET_BYTES],
+            out: vec![0; packet_bytes(vectors)],
         }
     }
 
-    /// Starts a card from its configuration bytes, BAR sizes, number of events
-    /// and requester ID.
-    ///
-    /// # Errors
-    ///
-    /// [`Refusal::Header`] to [`Refusal::Requester`].
-    pub fn start(
-        config: &[u8; 256],
-        sizes: &[u32; 6],
-        events: u16,
-        requester: u16,
-    ) -> Result<Card, Refusal> {
-        let mut card = Card::blank(vectors(config));
+    /// Starts a card.
+    pub fn start(start: &Start) -> Result<Card, StartError> {
+        let mut card = Card::blank(vectors(&start.config));
         accepted(raw::start(
             &mut card.state,
-            config,
-            sizes,
-            events,
-            requester,
+            &start.config,
+            &start.sizes,
+            start.events,
+            start.requester,
             &mut card.table,
             &mut card.pending,
         ))?;
         Ok(card)
     }
 
-    /// The card of an image, with buffers that fit.
-    ///
-    /// # Errors
-    ///
-    /// [`Refusal::Mark`], [`Refusal::Version`] or [`Refusal::Image`].
-    pub fn from_image(image: &[u8]) -> Result<Card, Refusal> {
+    /// The card of an image.
+    pub fn from_image(image: &[u8]) -> Result<Card, ImageError> {
         let mut card = Card::blank(image_vectors(image));
-        card.restore(image)?;
+        accepted(card.restored(image))?;
         Ok(card)
     }
 
     /// Reads `width` configuration bytes, 1, 2 or 4.
-    ///
-    /// # Errors
-    ///
-    /// [`Refusal::ConfigAccess`].
-    pub fn config_read(&self, offset: u16, width: u8) -> Result<u32, Refusal> {
+    pub fn config_read(&self, offset: u16, width: u8) -> Result<u32, ConfigError> {
         let mut value = 0;
         accepted(raw::config_read(
             &self.state,
@@ -141,16 +172,12 @@ impl Card {
 
     /// Writes `width` configuration bytes, 1, 2 or 4, and gives the packets
     /// that this sends.
-    ///
-    /// # Errors
-    ///
-    /// [`Refusal::ConfigAccess`].
     pub fn config_write(
         &mut self,
         offset: u16,
         width: u8,
         value: u32,
-    ) -> Result<Packets<'_>, Refusal> {
+    ) -> Result<Packets<'_>, ConfigError> {
         let mut count = 0;
         accepted(raw::config_write(
             &mut self.state,
@@ -166,11 +193,7 @@ impl Card {
     }
 
     /// Reads `width` bytes, 4 or 8, of the table or the pending array.
-    ///
-    /// # Errors
-    ///
-    /// [`Refusal::BarAccess`] or [`Refusal::MemorySpace`].
-    pub fn bar_read(&self, bar: u8, offset: u32, width: u8) -> Result<u64, Refusal> {
+    pub fn bar_read(&self, bar: u8, offset: u32, width: u8) -> Result<u64, BarError> {
         let mut value = 0;
         accepted(raw::bar_read(
             &self.state,
@@ -186,17 +209,13 @@ impl Card {
 
     /// Writes `width` bytes, 4 or 8, of the table, and gives the packets that
     /// this sends. A write to the pending array changes nothing.
-    ///
-    /// # Errors
-    ///
-    /// [`Refusal::BarAccess`] or [`Refusal::MemorySpace`].
     pub fn bar_write(
         &mut self,
         bar: u8,
         offset: u32,
         width: u8,
         value: u64,
-    ) -> Result<Packets<'_>, Refusal> {
+    ) -> Result<Packets<'_>, BarError> {
         let mut count = 0;
         accepted(raw::bar_write(
             &mut self.state,
@@ -213,11 +232,7 @@ impl Card {
     }
 
     /// A device event.
-    ///
-    /// # Errors
-    ///
-    /// [`Refusal::Event`].
-    pub fn event(&mut self, number: u16) -> Result<Event<'_>, Refusal> {
+    pub fn event(&mut self, number: u16) -> Result<Event<'_>, EventError> {
         let (mut answer, mut count) = (0, 0);
         accepted(raw::event(
             &mut self.state,
@@ -237,74 +252,57 @@ impl Card {
 
     /// Sets the device's line high or low, and gives the packets that this
     /// sends.
-    ///
-    /// # Errors
-    ///
-    /// None that a card made by this crate meets.
-    pub fn line(&mut self, high: bool) -> Result<Packets<'_>, Refusal> {
+    pub fn line(&mut self, high: bool) -> Packets<'_> {
         let mut count = 0;
-        accepted(raw::line(
+        never_refused(raw::line(
             &mut self.state,
             &self.table,
-            &mut self.pending,
+            &self.pending,
             u8::from(high),
             &mut self.out,
             &mut count,
-        ))?;
-        Ok(self.packets(count))
+        ));
+        self.packets(count)
     }
 
     /// Resets the card, and gives the packets that this sends.
-    ///
-    /// # Errors
-    ///
-    /// None that a card made by this crate meets.
-    pub fn reset(&mut self) -> Result<Packets<'_>, Refusal> {
+    pub fn reset(&mut self) -> Packets<'_> {
         let mut count = 0;
-        accepted(raw::reset(
+        never_refused(raw::reset(
             &mut self.state,
             &mut self.table,
             &mut self.pending,
             &mut self.out,
             &mut count,
-        ))?;
-        Ok(self.packets(count))
+        ));
+        self.packets(count)
     }
 
     /// Saves the card as an image.
-    ///
-    /// # Errors
-    ///
-    /// None that a card made by this crate meets.
-    pub fn save(&self) -> Result<Vec<u8>, Refusal> {
+    pub fn save(&self) -> Vec<u8> {
         let mut image = vec![0; FIXED_BYTES + self.table.len() + self.pending.len()];
         let mut count = 0;
-        accepted(raw::save(
+        never_refused(raw::save(
             &self.state,
             &self.table,
             &self.pending,
             &mut image,
             &mut count,
-        ))?;
+        ));
         image.truncate(count);
-        Ok(image)
+        image
     }
 
     /// Restores the card from an image of a card with the same number of
     /// vectors. This sends nothing: the host restores its own view of the
-    /// wire.
-    ///
-    /// # Errors
-    ///
-    /// [`Refusal::Mark`], [`Refusal::Version`], [`Refusal::Image`] or
-    /// [`Refusal::Buffers`].
-    pub fn restore(&mut self, image: &[u8]) -> Result<(), Refusal> {
-        accepted(raw::restore(
-            &mut self.state,
-            &mut self.table,
-            &mut self.pending,
-            image,
-        ))
+    /// wire. [`Card::from_image`] takes an image with any number of vectors.
+    pub fn restore(&mut self, image: &[u8]) -> Result<(), RestoreError> {
+        accepted(self.restored(image))
+    }
+
+    /// Restores the card, and gives the number of the refusal.
+    fn restored(&mut self, image: &[u8]) -> u8 {
+        raw::restore(&mut self.state, &mut self.table, &mut self.pending, image)
     }
 
     /// The number of MSI-X vectors, 0 to 2,048.

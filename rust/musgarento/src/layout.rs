@@ -1,10 +1,18 @@
-//! Lengths, and how many vectors a configuration has.
+//! Lengths and places, and how many vectors a configuration has.
 //!
-//! These only size the buffers to lend. The proved code works the lengths out
+//! The lengths only size the buffers to lend. The proved code works them out
 //! for itself and refuses others.
+
+use std::ops::Range;
 
 /// The bytes of a card in the C interface.
 pub const CARD_BYTES: usize = 289;
+
+/// Where the fields stand in a card's bytes.
+pub const EVENTS_AT: usize = 1;
+pub const REQUESTER_AT: usize = 3;
+pub const MSI_WAITING_AT: Range<usize> = 5..9;
+pub const COMMAND_AT: usize = 33 + 0x04;
 
 /// The most bytes of packets that one call makes.
 pub const PACKET_BYTES: usize = 40_976;
@@ -17,6 +25,13 @@ pub const FIXED_BYTES: usize = 294;
 
 /// Where the configuration bytes stand in an image.
 const CONFIG_AT: usize = 38;
+
+/// The most vectors that MSI has.
+const MSI_VECTORS: usize = 32;
+
+/// The bytes of a wire packet, and of the longest message.
+const WIRE_BYTES: usize = 16;
+const MESSAGE_BYTES: usize = 20;
 
 /// Capability ID of MSI-X.
 const MSIX_ID: u8 = 0x11;
@@ -62,6 +77,12 @@ pub fn pending_bytes(vectors: usize) -> usize {
     8 * vectors.div_ceil(64)
 }
 
+/// The most bytes of packets that a call makes on a card of `vectors` MSI-X
+/// vectors: a wire packet, and a message of each vector of MSI or of MSI-X.
+pub fn packet_bytes(vectors: usize) -> usize {
+    WIRE_BYTES + MESSAGE_BYTES * vectors.max(MSI_VECTORS)
+}
+
 #[cfg(test)]
 mod tests {
     use super::*;
@@ -94,6 +115,7 @@ mod tests {
     fn longest() {
         let buffers = table_bytes(2048) + pending_bytes(2048);
         assert_eq!(FIXED_BYTES + buffers, IMAGE_BYTES);
+        assert_eq!(packet_bytes(2048), PACKET_BYTES);
         assert_eq!(pending_bytes(65), 16);
         assert_eq!(pending_bytes(0), 0);
     }

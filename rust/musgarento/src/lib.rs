@@ -1,20 +1,40 @@
 //! A safe interface to the proved model of a PCIe card's interrupts: the pin
 //! (INTx), MSI and MSI-X of one endpoint function.
 //!
-//! A [`Card`] is started from 256 configuration bytes, takes configuration and
-//! BAR accesses, device events and line levels, and gives register values,
-//! [`Answer`]s and [`Packet`]s. It can be saved as an image at any time and
-//! restored from it. What it refuses has a numbered [`Refusal`].
+//! A [`Card`] is started from 256 configuration bytes and what else [`Start`]
+//! has, takes configuration and BAR accesses, device events and line levels,
+//! and gives register values, [`Answer`]s and [`Packet`]s. It can be saved as an
+//! image at any time and restored from it.
 //!
 //! ```
-//! use musgarento::{Card, Packet};
+//! use musgarento::{Card, Packet, Start};
 //!
 //! let mut config = [0; 256];
 //! config[0x3D] = 1; // The card uses pin 1, INTA.
-//! let mut card = Card::start(&config, &[0; 6], 1, 0x0100)?;
-//! let packets: Vec<Packet> = card.line(true)?.collect();
+//! let mut card = Card::start(&Start {
+//!     config,
+//!     sizes: [0; 6],
+//!     events: 1,
+//!     requester: 0x0100,
+//! })?;
+//! let packets: Vec<Packet> = card.line(true).collect();
 //! assert_eq!(packets, [Packet::Assert { requester: 0x0100, pin: 1 }]);
-//! # Ok::<(), musgarento::Refusal>(())
+//! # Ok::<(), musgarento::StartError>(())
+//! ```
+//!
+//! A call that can be refused has an error type with the refusals that it can
+//! meet, and no other: [`StartError`], [`ConfigError`], [`BarError`],
+//! [`EventError`], [`ImageError`], [`RestoreError`]. Line, reset and save are
+//! never refused. Each error converts into a [`Refusal`]:
+//!
+//! ```
+//! use musgarento::{Card, Refusal};
+//!
+//! fn play(card: &mut Card) -> Result<u32, Refusal> {
+//!     card.config_write(0x04, 2, 0x0006)?;
+//!     card.event(0)?;
+//!     Ok(card.config_read(0x04, 4)?)
+//! }
 //! ```
 //!
 //! The model itself is the static library `capi`, proved in Rattle; this crate
@@ -28,8 +48,12 @@ mod layout;
 mod packet;
 pub mod raw;
 mod refusal;
+mod start;
 
 pub use card::{Answer, Card, Event};
 pub use layout::{CARD_BYTES, IMAGE_BYTES, PACKET_BYTES};
 pub use packet::{Packet, Packets};
-pub use refusal::Refusal;
+pub use refusal::{
+    BarError, ConfigError, EventError, ImageError, Refusal, RestoreError, StartError,
+};
+pub use start::Start;

@@ -1,4 +1,5 @@
-//! The refusals.
+//! Why calls are refused: [`Refusal`] has all numbers, and each kind of call
+//! has an error type with those that it can meet.
 
 use std::error::Error;
 use std::fmt;
@@ -6,11 +7,24 @@ use std::fmt;
 /// Defines the refusals with their numbers and texts.
 macro_rules! refusals {
     ($($name:ident = $number:literal, $text:literal;)*) => {
-        /// Why a call was refused. A refused call changes nothing.
+        /// A refusal's number and text, for its documentation.
+        macro_rules! rule {
+            $(($name) => { concat!("No. ", $number, ": ", $text, ".") };)*
+        }
+
+        /// All refusals, by their numbers.
+        ///
+        /// The methods of [`Card`](crate::Card) have smaller error types, which
+        /// name only what can occur. Each of them converts into a `Refusal`, so
+        /// that `?` brings calls of several kinds together. The functions of
+        /// [`raw`](crate::raw) return the number alone.
+        ///
+        /// A refused call changes nothing.
         #[derive(Clone, Copy, Debug, PartialEq, Eq, Hash)]
+        #[non_exhaustive]
         #[repr(u8)]
         pub enum Refusal {
-            $(#[doc = concat!("No. ", $number, ": ", $text, ".")] $name = $number,)*
+            $(#[doc = rule!($name)] $name = $number,)*
         }
 
         impl Refusal {
@@ -69,9 +83,72 @@ impl fmt::Display for Refusal {
 
 impl Error for Refusal {}
 
+/// Defines error types, each with some of the refusals under their names.
+macro_rules! errors {
+    ($($(#[$doc:meta])* $error:ident: $($name:ident),*;)*) => {$(
+        $(#[$doc])*
+        #[derive(Clone, Copy, Debug, PartialEq, Eq, Hash)]
+        #[non_exhaustive]
+        pub enum $error {
+            $(#[doc = rule!($name)] $name,)*
+        }
+
+        impl $error {
+            /// The number of the refusal.
+            pub fn number(self) -> u8 {
+                Refusal::from(self).number()
+            }
+        }
+
+        impl From<$error> for Refusal {
+            fn from(error: $error) -> Refusal {
+                match error {
+                    $($error::$name => Refusal::$name,)*
+                }
+            }
+        }
+
+        impl TryFrom<Refusal> for $error {
+            /// A refusal that is none of these.
+            type Error = Refusal;
+
+            fn try_from(refusal: Refusal) -> Result<$error, Refusal> {
+                match refusal {
+                    $(Refusal::$name => Ok($error::$name),)*
+                    other => Err(other),
+                }
+            }
+        }
+
+        impl fmt::Display for $error {
+            fn fmt(&self, f: &mut fmt::Formatter<'_>) -> fmt::Result {
+                Refusal::from(*self).fmt(f)
+            }
+        }
+
+        impl Error for $error {}
+    )*};
+}
+
+errors! {
+    /// Why a start was refused.
+    StartError: Header, List, Twice, Structure, Region, Events, Requester;
+    /// Why a configuration access was refused.
+    ConfigError: ConfigAccess;
+    /// Why a BAR access was refused.
+    BarError: BarAccess, MemorySpace;
+    /// Why an event was refused.
+    EventError: Event;
+    /// Why an image gives no card.
+    ImageError: Mark, Version, Image;
+    /// Why a card was not restored: of the image, or of the card, which has
+    /// another number of vectors.
+    RestoreError: Mark, Version, Image, Buffers;
+}
+
 #[cfg(test)]
 mod tests {
-    use super::Refusal;
+    use super::*;
 
     #[test]
     fn numbers_go_there_and_back() {
@@ -87,9 +164,27 @@ mod tests {
         );
     }
 
+    /// The numbers of an error type's refusals.
+    fn numbers<E: TryFrom<Refusal>>(number: fn(E) -> u8) -> Vec<u8> {
+        let all = Refusal::ALL.iter();
+        all.filter_map(|&refusal| E::try_from(refusal).ok().map(number))
+            .collect()
+    }
+
+    #[test]
+    fn refusals_of_each_kind_of_call() {
+        assert_eq!(numbers(StartError::number), [10, 11, 12, 13, 14, 15, 16]);
+        assert_eq!(numbers(ConfigError::number), [3]);
+        assert_eq!(numbers(BarError::number), [4, 5]);
+        assert_eq!(numbers(EventError::number), [2]);
+        assert_eq!(numbers(ImageError::number), [20, 21, 22]);
+        assert_eq!(numbers(RestoreError::number), [17, 20, 21, 22]);
+    }
+
     #[test]
     fn text() {
-        let text = Refusal::Version.to_string();
-        assert_eq!(text, "refused with 21: version not 1");
+        let text = "refused with 21: version not 1";
+        assert_eq!(Refusal::Version.to_string(), text);
+        assert_eq!(ImageError::Version.to_string(), text);
     }
 }

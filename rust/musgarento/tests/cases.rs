@@ -1,6 +1,9 @@
 //! The thirteen bench cases, played through [`Card`].
 
-use musgarento::{Answer, Card, Packet, Packets, Refusal};
+use musgarento::{
+    Answer, BarError, Card, ConfigError, EventError, ImageError, Packet, Packets, RestoreError,
+    Start, StartError,
+};
 
 const REQUESTER: u16 = 0x0100;
 const COMMAND: u16 = 0x04;
@@ -36,8 +39,19 @@ fn config(msi: Option<u16>, vectors: Option<u16>) -> [u8; 256] {
     config
 }
 
-fn start(config: &[u8; 256], events: u16) -> Card {
-    Card::start(config, &[TABLE_SIZE; 6], events, REQUESTER).unwrap()
+/// What a card is started from, with BARs in which a table of 16 entries fits
+/// exactly.
+fn given(config: [u8; 256], events: u16) -> Start {
+    Start {
+        config,
+        sizes: [TABLE_SIZE; 6],
+        events,
+        requester: REQUESTER,
+    }
+}
+
+fn start(config: [u8; 256], events: u16) -> Card {
+    Card::start(&given(config, events)).unwrap()
 }
 
 /// Makes a configuration write that sends nothing.
@@ -48,7 +62,7 @@ fn quiet_write(card: &mut Card, offset: u16, width: u8, value: u32) {
 /// A card with MSI in force, bus mastering on and address FEE00000h, of the
 /// form in the control word.
 fn msi_card(control: u16, enable: u32, data: u32, events: u16) -> Card {
-    let mut card = start(&config(Some(control), None), events);
+    let mut card = start(config(Some(control), None), events);
     let data_at = if control & 0x80 == 0 { 0x08 } else { 0x0C };
     quiet_write(&mut card, COMMAND, 2, 4);
     quiet_write(&mut card, MSI + 4, 4, 0xFEE0_0000);
@@ -59,7 +73,7 @@ fn msi_card(control: u16, enable: u32, data: u32, events: u16) -> Card {
 
 /// A card with MSI-X, not in force yet, and the Command register given.
 fn msix_card(vectors: u16, command: u32) -> Card {
-    let mut card = start(&config(None, Some(vectors)), vectors);
+    let mut card = start(config(None, Some(vectors)), vectors);
     quiet_write(&mut card, COMMAND, 2, command);
     card
 }
@@ -132,14 +146,14 @@ fn case_5_msix_message() {
 
 #[test]
 fn case_6_wire() {
-    let mut card = start(&config(None, None), 1);
+    let mut card = start(config(None, None), 1);
     quiet_write(&mut card, COMMAND, 2, 4);
     let wire = |code| [0x34, 0, 0, 0, 1, 0, 0, code, 0, 0, 0, 0, 0, 0, 0, 0];
-    assert_eq!(card.line(true).unwrap().bytes(), wire(0x20));
+    assert_eq!(card.line(true).bytes(), wire(0x20));
     assert!(card.is_line_high() && card.is_wire_active());
-    assert_eq!(card.line(true).unwrap().count(), 0);
+    assert_eq!(card.line(true).count(), 0);
     assert_eq!(card.config_read(0x06, 2), Ok(1 << 3));
-    assert_eq!(card.line(false).unwrap().bytes(), wire(0x24));
+    assert_eq!(card.line(false).bytes(), wire(0x24));
     assert!(!card.is_line_high() && !card.is_wire_active());
 }
 
@@ -150,7 +164,7 @@ fn case_7_masked_vector() {
     quiet_write(&mut card, MSIX + 2, 2, 0x8000);
     assert_eq!(answer(&mut card, 3), Answer::Held);
     assert_eq!(answer(&mut card, 3), Answer::Merged);
-    assert_eq!(card.bar_read(TABLE_BAR, 0, 8), Err(Refusal::BarAccess));
+    assert_eq!(card.bar_read(TABLE_BAR, 0, 8), Err(BarError::BarAccess));
     assert_eq!(card.bar_read(0, 0, 8), Ok(1 << 3));
     let control = TABLE_AT + 16 * 3 + 12;
     let packets: Vec<Packet> = card.bar_write(TABLE_BAR, control, 4, 0).unwrap().collect();
@@ -189,7 +203,7 @@ fn case_10_msix_switched_on() {
     assert_eq!(answer(&mut card, 0), Answer::Lost);
     assert!(entry(&mut card, 0, 7, false).is_empty());
     let (requester, pin) = (REQUESTER, 1);
-    let packets: Vec<Packet> = card.line(true).unwrap().collect();
+    let packets: Vec<Packet> = card.line(true).collect();
     assert_eq!(packets, [Packet::Assert { requester, pin }]);
     let packets: Vec<Packet> = card.config_write(MSIX + 2, 2, 0x8000).unwrap().collect();
     assert_eq!(
@@ -200,25 +214,33 @@ fn case_10_msix_switched_on() {
 
 #[test]
 fn case_11_image() {
-    let card = Card::start(&[0; 256], &[0; 6], 1, REQUESTER).unwrap();
-    let image = card.save().unwrap();
+    let card = Card::start(&Start {
+        config: [0; 256],
+        sizes: [0; 6],
+        events: 1,
+        requester: REQUESTER,
+    });
+    let image = card.unwrap().save();
     assert_eq!(image[..10], [0x49, 0x52, 0x51, 1, 0, 0, 1, 0, 0, 1]);
     assert_eq!(image[10..], [0; 284]);
 }
 
 #[test]
 fn case_12_event_numbers() {
-    let mut card = start(&config(None, Some(16)), 16);
+    let mut card = start(config(None, Some(16)), 16);
     assert_eq!(answer(&mut card, 15), Answer::Lost);
-    assert_eq!(card.event(16).err(), Some(Refusal::Event));
+    assert_eq!(card.event(16).err(), Some(EventError::Event));
 }
 
 #[test]
 fn case_13_size_of_a_bar() {
-    let config = config(None, Some(16));
-    let start = |size| Card::start(&config, &[size; 6], 16, REQUESTER);
-    assert!(start(TABLE_SIZE).is_ok());
-    assert_eq!(start(TABLE_SIZE - 8).err(), Some(Refusal::Region));
+    let exact = given(config(None, Some(16)), 16);
+    let short = Start {
+        sizes: [TABLE_SIZE - 8; 6],
+        ..exact
+    };
+    assert!(Card::start(&exact).is_ok());
+    assert_eq!(Card::start(&short), Err(StartError::Region));
 }
 
 #[test]
@@ -226,19 +248,19 @@ fn save_and_restore() {
     let mut card = msix_card(16, 6);
     quiet_write(&mut card, MSIX + 2, 2, 0x8000);
     answer(&mut card, 5);
-    let (saved, image) = (card.clone(), card.save().unwrap());
+    let (saved, image) = (card.clone(), card.save());
     assert_eq!(image.len(), 294 + 16 * 16 + 8);
-    card.reset().unwrap();
+    card.reset();
     assert_ne!(card, saved);
     card.restore(&image).unwrap();
     assert_eq!(card, saved);
     assert_eq!(Card::from_image(&image).as_ref(), Ok(&saved));
     let mut other = msix_card(15, 6);
     let before = other.clone();
-    assert_eq!(other.restore(&image), Err(Refusal::Buffers));
+    assert_eq!(other.restore(&image), Err(RestoreError::Buffers));
     assert_eq!(other, before);
-    assert_eq!(Card::from_image(&image[..293]), Err(Refusal::Mark));
-    assert_eq!(Card::from_image(&image[..294]), Err(Refusal::Image));
+    assert_eq!(Card::from_image(&image[..293]), Err(ImageError::Mark));
+    assert_eq!(Card::from_image(&image[..294]), Err(ImageError::Image));
 }
 
 #[test]
@@ -251,8 +273,8 @@ fn the_most_packets() {
         assert_eq!(answer(&mut card, vector), Answer::Held);
     }
     quiet_write(&mut card, MSIX + 2, 2, 0);
-    assert_eq!(card.line(true).unwrap().count(), 1);
-    assert_eq!(card.save().unwrap().len(), musgarento::IMAGE_BYTES);
+    assert_eq!(card.line(true).count(), 1);
+    assert_eq!(card.save().len(), musgarento::IMAGE_BYTES);
     let packets = card.config_write(MSIX + 2, 2, 0x8000).unwrap();
     assert_eq!(packets.bytes().len(), musgarento::PACKET_BYTES);
     let messages: Vec<Packet> = packets.skip(1).collect();
@@ -262,24 +284,68 @@ fn the_most_packets() {
 
 /// A card of 2,048 vectors.
 fn start_large() -> Card {
-    let config = config(None, Some(2048));
-    Card::start(&config, &[0x10_0000; 6], 2048, REQUESTER).unwrap()
+    let small = given(config(None, Some(2048)), 2048);
+    let sizes = [0x10_0000; 6];
+    Card::start(&Start { sizes, ..small }).unwrap()
+}
+
+#[test]
+fn the_most_packets_of_msi() {
+    let capable = 5 << 1;
+    let mut card = start(config(Some(0x80 | capable), None), 32);
+    quiet_write(&mut card, MSI + 8, 4, 1);
+    quiet_write(&mut card, MSI + 2, 2, 1 | 5 << 4);
+    for number in 0..32 {
+        assert_eq!(answer(&mut card, number), Answer::Held);
+    }
+    quiet_write(&mut card, MSI + 2, 2, 5 << 4);
+    quiet_write(&mut card, COMMAND, 2, 4);
+    assert_eq!(card.line(true).count(), 1);
+    let packets = card.config_write(MSI + 2, 2, 1 | 5 << 4).unwrap();
+    assert_eq!(packets.bytes().len(), 16 + 32 * 20);
+    assert_eq!(packets.count(), 33);
 }
 
 #[test]
 fn refused_starts() {
-    let start = |change: &dyn Fn(&mut [u8; 256])| {
-        let mut config = config(Some(0), Some(16));
-        change(&mut config);
-        Card::start(&config, &[TABLE_SIZE; 6], 16, REQUESTER).err()
+    let start = |change: &dyn Fn(&mut Start)| {
+        let mut given = given(config(Some(0), Some(16)), 16);
+        change(&mut given);
+        Card::start(&given).err()
     };
     assert_eq!(start(&|_| ()), None);
-    assert_eq!(start(&|c| c[0x3D] = 5), Some(Refusal::Header));
-    assert_eq!(start(&|c| c[0x71] = 0x70), Some(Refusal::List));
-    assert_eq!(start(&|c| c[0x70] = 0x05), Some(Refusal::Twice));
-    assert_eq!(start(&|c| c[0x52] = 0x0C), Some(Refusal::Structure));
-    assert_eq!(start(&|c| c[0x74] = 6), Some(Refusal::Region));
-    assert_eq!(start(&|c| c[0x72] = 14), Some(Refusal::Events));
-    let requester = Card::start(&[0; 256], &[0; 6], 1, 0x0101).err();
-    assert_eq!(requester, Some(Refusal::Requester));
+    assert_eq!(start(&|g| g.config[0x3D] = 5), Some(StartError::Header));
+    assert_eq!(start(&|g| g.config[0x71] = 0x70), Some(StartError::List));
+    assert_eq!(start(&|g| g.config[0x70] = 0x05), Some(StartError::Twice));
+    let structure = start(&|g| g.config[0x52] = 0x0C);
+    assert_eq!(structure, Some(StartError::Structure));
+    assert_eq!(start(&|g| g.config[0x74] = 6), Some(StartError::Region));
+    assert_eq!(start(&|g| g.config[0x72] = 14), Some(StartError::Events));
+    assert_eq!(start(&|g| g.events = 15), Some(StartError::Events));
+    let requester = start(&|g| g.requester = 0x0101);
+    assert_eq!(requester, Some(StartError::Requester));
+}
+
+#[test]
+fn refused_accesses() {
+    let mut card = msix_card(16, 4);
+    assert_eq!(card.config_read(0xFF, 2), Err(ConfigError::ConfigAccess));
+    let write = card.config_write(0x100, 4, 0).err();
+    assert_eq!(write, Some(ConfigError::ConfigAccess));
+    let read = card.bar_read(TABLE_BAR, TABLE_AT, 4);
+    assert_eq!(read, Err(BarError::MemorySpace));
+    let write = card.bar_write(TABLE_BAR, TABLE_AT, 2, 0).err();
+    assert_eq!(write, Some(BarError::BarAccess));
+}
+
+#[test]
+fn text_of_a_card() {
+    let mut card = msix_card(16, 6);
+    quiet_write(&mut card, MSIX + 2, 2, 0x8000);
+    answer(&mut card, 5);
+    assert_eq!(
+        format!("{card:?}"),
+        "Card { events: 16, requester: 0x0100, vectors: 16, command: 0x0006, \
+         line: false, wire: false, msi_waiting: 0, msix_waiting: 1, .. }"
+    );
 }

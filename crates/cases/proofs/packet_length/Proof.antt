@@ -6,9 +6,6 @@ use borrow.Author.Needs.{needs}
 use Rattle.cases.proofs.packet_length.Statement.{statement}
 use Rattle.cases.proofs.packet_length.Tie as tie
 
-shared-slice-read-if1 : tie.Need-shared-slice-read-if1
-shared-slice-read-if1 c = search needs
-
 returns : tie.Need-returns
 returns c = (omega arith, counts 20 (now (c .before .before .before .args .s)) (omega arith))
 
@@ -23,4 +20,4 @@ returns-4 c = (omega arith, counts _ _ (omega arith))
 
 pub packet-length-spec : {M : Type 1} → statement M
 packet-length-spec =
-    tie.close (tie.spec shared-slice-read-if1 returns returns-2 returns-3 returns-4)
+    tie.close (tie.spec (λ c. search needs) returns returns-2 returns-3 returns-4)

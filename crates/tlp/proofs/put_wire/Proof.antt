@@ -27,8 +27,9 @@ same-length c = search needs
 returns : tie.Need-returns
 unfolding wireMessage
 returns c =
-    let d = c .before .before .before .before .before in
-    rw (bytesHigh-two, sym (d .wire-code .ensures)) (c .before .before .put-slice .ensures)
+    let at-put-slice = c .before .before in
+    let at-wire-code = at-put-slice .before .before .before in
+    rw (bytesHigh-two, sym (at-wire-code .wire-code .ensures)) (at-put-slice .put-slice .ensures)
 
 pub put-wire-spec : {M : Type 1} → statement M
 put-wire-spec =

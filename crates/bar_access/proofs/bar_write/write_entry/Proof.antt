@@ -1,25 +1,48 @@
-use denote.Ref.{now}
+-- The message is read off a copy of the entry before anything changes. Assumes nothing.
+use mathlib.Core.Path.{_≡_, sym, _∙_}
 use native.Mathlib.Omega.{arith}
+use denote.Ref.{now}
+use borrow.Author.Tests.{not-true, not-false}
 use Rattle.model.specs.World.{worldOf}
-use Rattle.bar_access.proofs.WriteFor.{write-shape, write-vector, write-entry, write-room, write-pending, write-small, write-quiet, write-short, write-sent}
+use Rattle.bar_access.proofs.WriteFor.{owedAfter, write-vector, write-entry, write-room, write-pending, write-small, write-quiet, write-short, write-sent}
 use borrow.Author.Needs.{needs}
 use Rattle.bar_access.proofs.bar_write.write_entry.Statement.{statement}
 use Rattle.bar_access.proofs.bar_write.write_entry.Tie as tie
 
 cast-put-vector-message : tie.Need-cast-put-vector-message
-cast-put-vector-message c = let l = write-small (c .before .before .before .args .t1) (now (c .before .before .before .args .table)) (now (c .before .before .before .args .pending)) _ (c .before .before .before .pre .0) (c .before .before .before .pre .1) _ _ (c .before .before .before .pre .2) (c .before .before .before .pre .3) in omega arith
+cast-put-vector-message c =
+    let start = c .before .before .before in
+    omega (arith, write-small _ _ _ _ (start .pre .0) _ _ (start .pre .1) (start .pre .2))
 
 entry-after-requires : tie.Need-entry-after-requires
-entry-after-requires c κs = write-entry (c .before .before .before .before .args .t1) (now (c .before .before .before .before .args .table)) (now (c .before .before .before .before .args .pending)) _ (c .before .before .before .before .pre .0) (c .before .before .before .before .pre .1) _ _ (c .before .before .before .before .pre .2) (c .before .before .before .before .pre .3)
+entry-after-requires c κs =
+    let start = c .before .before .before .before in
+    write-entry _ _ _ _ (start .pre .0) _ _ (start .pre .1) (start .pre .2)
 
 slice-aggregate-is-owed : tie.Need-slice-aggregate-is-owed
 slice-aggregate-is-owed c = search needs
 
 is-owed-requires : tie.Need-is-owed-requires
-is-owed-requires c κs = (write-shape (c .before .before .before .before .before .before .before .before .before .args .t1) (now (c .before .before .before .before .before .before .before .before .before .args .table)) (now (c .before .before .before .before .before .before .before .before .before .args .pending)) _ (c .before .before .before .before .before .before .before .before .before .pre .0) (c .before .before .before .before .before .before .before .before .before .pre .1) _ _ (c .before .before .before .before .before .before .before .before .before .pre .2) (c .before .before .before .before .before .before .before .before .before .pre .3), write-vector (c .before .before .before .before .before .before .before .before .before .args .t1) (now (c .before .before .before .before .before .before .before .before .before .args .table)) (now (c .before .before .before .before .before .before .before .before .before .args .pending)) _ (c .before .before .before .before .before .before .before .before .before .pre .0) (c .before .before .before .before .before .before .before .before .before .pre .1) _ _ (c .before .before .before .before .before .before .before .before .before .pre .2) (c .before .before .before .before .before .before .before .before .before .pre .3), search needs)
+is-owed-requires c κs =
+    let at-entry-after = c .before .before .before .before in
+    let start = at-entry-after .before .before .before .before .before in
+    (start .pre .0 .profiled, write-vector _ _ _ _ (start .pre .0) _ _ (start .pre .1) (start .pre .2), search needs)
+
+-- whether the vector sends is known
+module _ (c : tie.After-is-owed) where
+  abbrev at-entry-after : tie.After-entry-after
+  at-entry-after = let at-entry = c .before .before in at-entry .before .before .before
+
+  abbrev start : tie.Start
+  start = let known = at-entry-after .before .before in known .before .before .before
+
+  found : let a = start .args in c .is-owed .result ≡ owedAfter (a .t1) (now (a .table)) (now (a .pending)) (a .k) (a .at) (a .n) (a .value)
+  found = let a = start .args in c .is-owed .ensures (worldOf (a .t1) (now (a .table)) (now (a .pending)) .endpoint) _ (at-entry-after .entry-after .ensures)
 
 table-written-requires : tie.Need-table-written-requires
-table-written-requires c κs = write-room (c .before .before .before .before .before .before .before .before .before .before .before .before .args .t1) (now (c .before .before .before .before .before .before .before .before .before .before .before .before .args .table)) (now (c .before .before .before .before .before .before .before .before .before .before .before .before .args .pending)) _ (c .before .before .before .before .before .before .before .before .before .before .before .before .pre .0) (c .before .before .before .before .before .before .before .before .before .before .before .before .pre .1) _ _ (c .before .before .before .before .before .before .before .before .before .before .before .before .pre .2) (c .before .before .before .before .before .before .before .before .before .before .before .before .pre .3)
+table-written-requires c κs =
+    let begin = start (c .before .before) in
+    write-room _ _ _ _ (begin .pre .0) _ _ (begin .pre .1) (begin .pre .2)
 
 accepted-requires : tie.Need-accepted-requires
 accepted-requires c κs = search needs
@@ -31,7 +54,13 @@ same-length-2 : tie.Need-same-length-2
 same-length-2 c = search needs
 
 returns : tie.Need-returns
-returns c = write-quiet (c .before .before .before .before .before .before .before .before .before .before .before .before .before .before .before .before .args .t1) (now (c .before .before .before .before .before .before .before .before .before .before .before .before .before .before .before .before .args .table)) (now (c .before .before .before .before .before .before .before .before .before .before .before .before .before .before .before .before .args .pending)) _ (c .before .before .before .before .before .before .before .before .before .before .before .before .before .before .before .before .pre .0) (c .before .before .before .before .before .before .before .before .before .before .before .before .before .before .before .before .pre .1) _ _ (c .before .before .before .before .before .before .before .before .before .before .before .before .before .before .before .before .pre .2) (c .before .before .before .before .before .before .before .before .before .before .before .before .before .before .before .before .pre .3) (c .before .before .before .before .before .before .before .before .before .before .before .before .before .before .before .before .args .value) _ _ _ ((c .before .before .before .before .before .before .is-owed .ensures) (worldOf (c .before .before .before .before .before .before .before .before .before .before .before .before .before .before .before .before .args .t1) (now (c .before .before .before .before .before .before .before .before .before .before .before .before .before .before .before .before .args .table)) (now (c .before .before .before .before .before .before .before .before .before .before .before .before .before .before .before .before .args .pending)) .endpoint) _ (c .before .before .before .before .before .before .before .before .before .before .before .entry-after .ensures)) _ (c .before .before .before .before .before .if1 .taken) (c .before .before .before .table-written .ensures) (c .accepted .ensures)
+returns c =
+    let at-table-written = c .before .before .before in
+    let at-if1 = at-table-written .before .before in
+    let at-is-owed = at-if1 .before in
+    let begin = start at-is-owed in
+    write-quiet _ _ _ _ (begin .pre .0) _ _ (begin .pre .1) (begin .pre .2) (begin .args .value) _ _ (sym (found at-is-owed) ∙ not-true _ (at-if1 .if1 .taken)) _
+    (at-table-written .table-written .ensures) (c .accepted .ensures)
 
 slice-aggregate-msix-message : tie.Need-slice-aggregate-msix-message
 slice-aggregate-msix-message c = search needs
@@ -52,13 +81,29 @@ same-length-4 : tie.Need-same-length-4
 same-length-4 c = search needs
 
 returns-2 : tie.Need-returns-2
-returns-2 c = write-short (c .before .before .before .before .before .before .before .before .before .before .before .before .before .before .before .before .args .t1) (now (c .before .before .before .before .before .before .before .before .before .before .before .before .before .before .before .before .args .table)) (now (c .before .before .before .before .before .before .before .before .before .before .before .before .before .before .before .before .args .pending)) _ (c .before .before .before .before .before .before .before .before .before .before .before .before .before .before .before .before .pre .0) (c .before .before .before .before .before .before .before .before .before .before .before .before .before .before .before .before .pre .1) _ _ (c .before .before .before .before .before .before .before .before .before .before .before .before .before .before .before .before .pre .2) (c .before .before .before .before .before .before .before .before .before .before .before .before .before .before .before .before .pre .3) (c .before .before .before .before .before .before .before .before .before .before .before .before .before .before .before .before .args .value) _ _ _ ((c .before .before .before .before .before .before .is-owed .ensures) (worldOf (c .before .before .before .before .before .before .before .before .before .before .before .before .before .before .before .before .args .t1) (now (c .before .before .before .before .before .before .before .before .before .before .before .before .before .before .before .before .args .table)) (now (c .before .before .before .before .before .before .before .before .before .before .before .before .before .before .before .before .args .pending)) .endpoint) _ (c .before .before .before .before .before .before .before .before .before .before .before .entry-after .ensures)) _ (c .before .before .before .before .before .before .before .before .before .before .before .entry-after .ensures) _ ((c .before .before .before .msix-message .ensures) _ _ _) (c .before .before .before .before .before .if1 .left) _ (c .before .before .message-size .ensures) (c .before .if2 .taken) (c .refused .ensures)
+returns-2 c =
+    let at-if2 = c .before in
+    let at-message-size = at-if2 .before in
+    let at-msix-message = at-message-size .before in
+    let at-if1 = at-msix-message .before .before in
+    let at-is-owed = at-if1 .before in
+    let begin = start at-is-owed in
+    write-short _ _ _ _ (begin .pre .0) _ _ (begin .pre .1) (begin .pre .2) (begin .args .value) _ _ (sym (found at-is-owed) ∙ not-false _ (at-if1 .if1 .left)) _
+    (at-entry-after at-is-owed .entry-after .ensures) _ (at-msix-message .msix-message .ensures _ _ _) _ (at-message-size .message-size .ensures)
+    (at-if2 .if2 .taken) (c .refused .ensures)
 
 table-written-requires-2 : tie.Need-table-written-requires-2
-table-written-requires-2 c κs = write-room (c .before .before .before .before .before .before .before .before .before .before .before .before .before .before .before .before .args .t1) (now (c .before .before .before .before .before .before .before .before .before .before .before .before .before .before .before .before .args .table)) (now (c .before .before .before .before .before .before .before .before .before .before .before .before .before .before .before .before .args .pending)) _ (c .before .before .before .before .before .before .before .before .before .before .before .before .before .before .before .before .pre .0) (c .before .before .before .before .before .before .before .before .before .before .before .before .before .before .before .before .pre .1) _ _ (c .before .before .before .before .before .before .before .before .before .before .before .before .before .before .before .before .pre .2) (c .before .before .before .before .before .before .before .before .before .before .before .before .before .before .before .before .pre .3)
+table-written-requires-2 c κs =
+    let at-if1 = c .before .before .before .before .before in
+    let begin = start (at-if1 .before) in
+    write-room _ _ _ _ (begin .pre .0) _ _ (begin .pre .1) (begin .pre .2)
 
 clear-pending-requires : tie.Need-clear-pending-requires
-clear-pending-requires c κs = write-pending (c .before .before .before .before .before .before .before .before .before .before .before .before .before .before .before .before .before .before .before .before .args .t1) (now (c .before .before .before .before .before .before .before .before .before .before .before .before .before .before .before .before .before .before .before .before .args .table)) (now (c .before .before .before .before .before .before .before .before .before .before .before .before .before .before .before .before .before .before .before .before .args .pending)) _ (c .before .before .before .before .before .before .before .before .before .before .before .before .before .before .before .before .before .before .before .before .pre .0) (c .before .before .before .before .before .before .before .before .before .before .before .before .before .before .before .before .before .before .before .before .pre .1) _ _ (c .before .before .before .before .before .before .before .before .before .before .before .before .before .before .before .before .before .before .before .before .pre .2) (c .before .before .before .before .before .before .before .before .before .before .before .before .before .before .before .before .before .before .before .before .pre .3)
+clear-pending-requires c κs =
+    let at-table-written = c .before .before .before in
+    let at-if1 = at-table-written .before .before .before .before .before .before in
+    let begin = start (at-if1 .before) in
+    write-pending _ _ _ _ (begin .pre .0) _ _ (begin .pre .1) (begin .pre .2)
 
 put-vector-message-requires : tie.Need-put-vector-message-requires
 put-vector-message-requires c κs = search needs
@@ -76,7 +121,20 @@ same-length-7 : tie.Need-same-length-7
 same-length-7 c = search needs
 
 returns-3 : tie.Need-returns-3
-returns-3 c = write-sent (c .before .before .before .before .before .before .before .before .before .before .before .before .before .before .before .before .before .before .before .before .before .before .before .before .before .before .before .before .args .t1) (now (c .before .before .before .before .before .before .before .before .before .before .before .before .before .before .before .before .before .before .before .before .before .before .before .before .before .before .before .before .args .table)) (now (c .before .before .before .before .before .before .before .before .before .before .before .before .before .before .before .before .before .before .before .before .before .before .before .before .before .before .before .before .args .pending)) _ (c .before .before .before .before .before .before .before .before .before .before .before .before .before .before .before .before .before .before .before .before .before .before .before .before .before .before .before .before .pre .0) (c .before .before .before .before .before .before .before .before .before .before .before .before .before .before .before .before .before .before .before .before .before .before .before .before .before .before .before .before .pre .1) _ _ (c .before .before .before .before .before .before .before .before .before .before .before .before .before .before .before .before .before .before .before .before .before .before .before .before .before .before .before .before .pre .2) (c .before .before .before .before .before .before .before .before .before .before .before .before .before .before .before .before .before .before .before .before .before .before .before .before .before .before .before .before .pre .3) (c .before .before .before .before .before .before .before .before .before .before .before .before .before .before .before .before .before .before .before .before .before .before .before .before .before .before .before .before .args .value) _ _ _ ((c .before .before .before .before .before .before .before .before .before .before .before .before .before .before .before .before .before .before .is-owed .ensures) (worldOf (c .before .before .before .before .before .before .before .before .before .before .before .before .before .before .before .before .before .before .before .before .before .before .before .before .before .before .before .before .args .t1) (now (c .before .before .before .before .before .before .before .before .before .before .before .before .before .before .before .before .before .before .before .before .before .before .before .before .before .before .before .before .args .table)) (now (c .before .before .before .before .before .before .before .before .before .before .before .before .before .before .before .before .before .before .before .before .before .before .before .before .before .before .before .before .args .pending)) .endpoint) _ (c .before .before .before .before .before .before .before .before .before .before .before .before .before .before .before .before .before .before .before .before .before .before .before .entry-after .ensures)) _ (c .before .before .before .before .before .before .before .before .before .before .before .before .before .before .before .before .before .before .before .before .before .before .before .entry-after .ensures) _ ((c .before .before .before .before .before .before .before .before .before .before .before .before .before .before .before .msix-message .ensures) _ _ _) (c .before .before .before .before .before .before .before .before .before .before .before .before .before .before .before .before .before .if1 .left) _ (c .before .before .before .before .before .before .before .before .before .before .before .before .before .before .message-size .ensures) _ _ _ _ (c .before .before .before .before .before .before .before .before .before .before .before .before .before .if2 .left) (c .before .before .before .before .before .before .before .before .before .before .before .table-written2 .ensures) (c .before .before .before .before .before .before .before .clear-pending .ensures) (c .before .before .before .put-vector-message .ensures) (c .accepted2 .ensures)
+returns-3 c =
+    let at-put-vector-message = c .before .before .before in
+    let at-clear-pending = at-put-vector-message .before .before .before .before in
+    let at-table-written = at-clear-pending .before .before .before .before in
+    let at-if2 = at-table-written .before .before in
+    let at-message-size = at-if2 .before in
+    let at-msix-message = at-message-size .before in
+    let at-if1 = at-msix-message .before .before in
+    let at-is-owed = at-if1 .before in
+    let begin = start at-is-owed in
+    write-sent _ _ _ _ (begin .pre .0) _ _ (begin .pre .1) (begin .pre .2) (begin .args .value) _ _ (sym (found at-is-owed) ∙ not-false _ (at-if1 .if1 .left)) _
+    (at-entry-after at-is-owed .entry-after .ensures) _ (at-msix-message .msix-message .ensures _ _ _) _ (at-message-size .message-size .ensures)
+    _ _ _ _ (at-if2 .if2 .left) (at-table-written .table-written2 .ensures) (at-clear-pending .clear-pending .ensures)
+    (at-put-vector-message .put-vector-message .ensures) (c .accepted2 .ensures)
 
 pub write-entry-spec : {M : Type 1} → statement M
 write-entry-spec =

@@ -1,4 +1,5 @@
-use Rattle.model.proofs.AccessBounds.{bar-above, bar-width, bar-multiple, bar-table, bar-pending, bar-width-positive}
+-- One law for each way out. Assumes nothing.
+use Rattle.model.proofs.Registers.AccessBounds.{bar-above, bar-width, bar-multiple, bar-table, bar-pending, bar-width-positive}
 use borrow.Author.Needs.{needs}
 use Rattle.bar_access.proofs.bounds.bad_bar.Statement.{statement}
 use Rattle.bar_access.proofs.bounds.bad_bar.Tie as tie
@@ -16,19 +17,35 @@ rem-if3 : tie.Need-rem-if3
 rem-if3 c = bar-width-positive _ _ (c .before .is-bar-width .ensures) (c .if2 .left)
 
 returns-3 : tie.Need-returns-3
-returns-3 c = bar-multiple _ _ _ _ _ (c .before .before .before .if1 .left) (c .before .before .is-bar-width .ensures) (c .before .if2 .left) (c .if3 .taken)
+returns-3 c =
+    let at-if2 = c .before in
+    let at-width = at-if2 .before in
+    bar-multiple _ _ _ _ _ (at-width .before .if1 .left) (at-width .is-bar-width .ensures) (at-if2 .if2 .left) (c .if3 .taken)
 
 in-table-requires : tie.Need-in-table-requires
 in-table-requires c κs = search needs
 
 returns-4 : tie.Need-returns-4
-returns-4 c = bar-table _ _ _ _ _ (c .before .before .before .before .before .if1 .left) (c .before .before .before .before .is-bar-width .ensures) _ (c .before .before .before .if2 .left) (c .before .before .if3 .left) (c .before .in-table .ensures) (c .if4 .taken)
+returns-4 c =
+    let at-table = c .before in
+    let at-if3 = at-table .before in
+    let at-if2 = at-if3 .before in
+    let at-width = at-if2 .before in
+    bar-table _ _ _ _ _ (at-width .before .if1 .left) (at-width .is-bar-width .ensures) _ (at-if2 .if2 .left) (at-if3 .if3 .left) (at-table .in-table .ensures)
+    (c .if4 .taken)
 
 in-pending-requires : tie.Need-in-pending-requires
 in-pending-requires c κs = search needs
 
 returns-5 : tie.Need-returns-5
-returns-5 c = bar-pending _ _ _ _ _ (c .before .before .before .before .before .before .if1 .left) (c .before .before .before .before .before .is-bar-width .ensures) _ _ (c .before .before .before .before .if2 .left) (c .before .before .before .if3 .left) (c .before .before .in-table .ensures) (c .before .if4 .left) (c .in-pending .ensures)
+returns-5 c =
+    let at-if4 = c .before in
+    let at-table = at-if4 .before in
+    let at-if3 = at-table .before in
+    let at-if2 = at-if3 .before in
+    let at-width = at-if2 .before in
+    bar-pending _ _ _ _ _ (at-width .before .if1 .left) (at-width .is-bar-width .ensures) _ _ (at-if2 .if2 .left) (at-if3 .if3 .left)
+    (at-table .in-table .ensures) (at-if4 .if4 .left) (c .in-pending .ensures)
 
 pub bad-bar-spec : {M : Type 1} → statement M
 bad-bar-spec =

@@ -1,3 +1,4 @@
+-- One way out for each width. Assumes nothing.
 use borrow.Author.Tests.{eq-eqb, ne-eqb}
 use Rattle.bar_access.proofs.bounds.is_bar_width.Statement.{statement}
 use Rattle.bar_access.proofs.bounds.is_bar_width.Tie as tie

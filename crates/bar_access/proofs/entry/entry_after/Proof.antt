@@ -1,3 +1,4 @@
+-- The 16 bytes of the entry are copied, then written. Assumes nothing.
 use Rattle.bar_access.proofs.EntryFor.{entry-copied}
 use borrow.Author.Needs.{needs}
 use Rattle.bar_access.proofs.entry.entry_after.Statement.{statement}
@@ -31,7 +32,11 @@ table-written-requires : tie.Need-table-written-requires
 table-written-requires c κs = search needs
 
 returns : tie.Need-returns
-returns c = entry-copied _ _ _ _ _ _ _ (c .before .before .before .before .put-slice .ensures .bytes) (c .before .table-written .ensures) (c .before .before .before .before .before .before .before .before .pre .1) (search needs)
+returns c =
+    let at-table-written = c .before in
+    let at-put-slice = at-table-written .before .before .before in
+    let start = at-put-slice .before .before .before .before in
+    entry-copied _ _ _ _ _ _ _ (at-put-slice .put-slice .ensures .bytes) (at-table-written .table-written .ensures) (start .pre .1) (search needs)
 
 pub entry-after-spec : {M : Type 1} → statement M
 entry-after-spec =

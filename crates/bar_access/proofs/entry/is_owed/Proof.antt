@@ -1,34 +1,69 @@
+-- One law for each way out. Assumes nothing.
+use mathlib.Core.Path.{sym, _∙_}
 use denote.Ref.{now}
-use Rattle.bar_access.proofs.EntryFor.{owed-idle, owed-masked, owed-open}
+use borrow.Author.Tests.{not-true, not-false}
+use Rattle.bar_access.proofs.EntryFor.{owed-force, owed-other, owed-idle, owed-masked, owed-open}
 use borrow.Author.Needs.{needs}
 use Rattle.bar_access.proofs.entry.is_owed.Statement.{statement}
 use Rattle.bar_access.proofs.entry.is_owed.Tie as tie
 
+is-msix-requires : tie.Need-is-msix-requires
+is-msix-requires c κs = search needs
+
+returns : tie.Need-returns
+returns c =
+    let at-is-msix = c .before in
+    let start = at-is-msix .before .before .before in
+    λ u t same. owed-other _ _ (start .pre .0) t (now (start .args .pending)) u _ (sym (at-is-msix .is-msix .ensures) ∙ not-true _ (c .if1 .taken))
+
 waits-requires : tie.Need-waits-requires
 waits-requires c κs = search needs
 
-returns : tie.Need-returns
-returns c = λ u t same. owed-idle (now (c .before .before .before .before .args .entry)) t _ same _ _ _ u _ ((c .before .waits .ensures) u) (c .if1 .taken)
+returns-2 : tie.Need-returns-2
+returns-2 c =
+    let at-waits = c .before in
+    let at-is-msix = at-waits .before .before in
+    let start = at-is-msix .before .before .before in
+    λ u t same. owed-idle _ _ (start .pre .0) t _ u _ (sym (at-waits .waits .ensures u) ∙ not-true _ (c .if2 .taken))
 
 entry-masked-requires : tie.Need-entry-masked-requires
 entry-masked-requires c κs = search needs
 
-returns-2 : tie.Need-returns-2
-returns-2 c = λ u t same. owed-masked _ t _ same _ _ _ u _ ((c .before .before .before .waits .ensures) u) _ ((c .before .entry-masked .ensures) _ _) (c .if2 .taken)
+returns-3 : tie.Need-returns-3
+returns-3 c =
+    let at-entry-masked = c .before in
+    let at-is-msix = at-entry-masked .before .before .before .before in
+    let start = at-is-msix .before .before .before in
+    λ u t same. owed-masked _ _ (start .pre .0) t (now (start .args .pending)) u _ _ same (sym (at-entry-masked .entry-masked .ensures _ _) ∙ c .if3 .taken)
 
 msix-enabled-requires : tie.Need-msix-enabled-requires
-msix-enabled-requires c κs = search needs
+msix-enabled-requires c κs =
+    let at-if1 = c .before .before .before .before in
+    let at-is-msix = at-if1 .before in
+    let start = at-is-msix .before .before .before in
+    (start .pre .0 .fits, owed-force _ _ (start .pre .0) (sym (at-is-msix .is-msix .ensures) ∙ not-false _ (at-if1 .if1 .left)))
 
-returns-3 : tie.Need-returns-3
-returns-3 c = λ u t same. owed-open _ t _ same _ _ _ u _ ((c .before .before .before .before .waits .ensures) u) _ ((c .before .before .entry-masked .ensures) _ _) _ (c .before .before .before .if1 .left) (c .before .if2 .left) (c .before .before .before .before .before .before .before .pre .1) ((c .msix-enabled .ensures) t)
+returns-4 : tie.Need-returns-4
+returns-4 c =
+    let at-if3 = c .before in
+    let at-entry-masked = at-if3 .before in
+    let at-if2 = at-entry-masked .before in
+    let at-waits = at-if2 .before in
+    let at-is-msix = at-waits .before .before in
+    let start = at-is-msix .before .before .before in
+    λ u t same. c .msix-enabled .ensures t
+    ∙ owed-open _ _ (start .pre .0) t _ u _ _ same (sym (at-waits .waits .ensures u) ∙ not-false _ (at-if2 .if2 .left))
+    (sym (at-entry-masked .entry-masked .ensures _ _) ∙ at-if3 .if3 .left) (start .pre .1)
 
 pub is-owed-spec : {M : Type 1} → statement M
 is-owed-spec =
     tie.close
     (tie.spec
-    waits-requires
+    is-msix-requires
     returns
-    entry-masked-requires
+    waits-requires
     returns-2
+    entry-masked-requires
+    returns-3
     msix-enabled-requires
-    returns-3)
+    returns-4)

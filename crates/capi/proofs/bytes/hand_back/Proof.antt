@@ -1,8 +1,18 @@
+-- The card's bytes over those of the card before it, which are as long. Assumes nothing.
 use denote.Ref.{now}
+use mathlib.Core.Path.{_≡_}
+use lib.ListN.{length}
 use Rattle.capi.proofs.CardFor.{card-written}
 use borrow.Author.Needs.{needs}
 use Rattle.capi.proofs.bytes.hand_back.Statement.{statement}
 use Rattle.capi.proofs.bytes.hand_back.Tie as tie
+
+-- the lengths of the card's arrays
+sizes-known : (s : tie.Start) → length (s .args .outcome .card .function .sizes) ≡ 6
+sizes-known s = search needs
+
+config-known : (s : tie.Start) → length (s .args .outcome .card .function .config) ≡ 256
+config-known s = search needs
 
 put-card-requires : tie.Need-put-card-requires
 put-card-requires c κs = search needs
@@ -14,7 +24,11 @@ same-length : tie.Need-same-length
 same-length c = search needs
 
 returns : tie.Need-returns
-returns c = ((c .numbers-of .ensures), card-written (c .before .before .before .before .before .before .before .args .outcome .card) (now (c .before .before .before .before .before .before .before .args .bytes)) _ _ (search needs) (search needs) (c .before .before .before .before .before .before .before .pre) (c .before .before .before .put-card .ensures))
+returns c =
+    let at-put-card = c .before .before .before in
+    let start = at-put-card .before .before .before .before in
+    let wrote = at-put-card .put-card .ensures in
+    (c .numbers-of .ensures, card-written (start .args .outcome .card) (now (start .args .bytes)) _ _ (sizes-known start) (config-known start) (start .pre) wrote)
 
 pub hand-back-spec : {M : Type 1} → statement M
 hand-back-spec = tie.close (tie.spec put-card-requires numbers-of-requires same-length returns)

@@ -1,3 +1,4 @@
+-- The length, then the flags. Assumes nothing.
 use Rattle.capi.proofs.CardFor.{wrong-length, right-length}
 use borrow.Author.Needs.{needs}
 use Rattle.capi.proofs.bytes.is_card.Statement.{statement}

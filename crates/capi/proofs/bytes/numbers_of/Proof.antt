@@ -1,7 +1,8 @@
+-- One law of the definition for each answer. Assumes nothing.
 use mathlib.Core.Path.{_≡_, sym, _∙_}
 use Prim.Native.Nat.{ℕ}
 use Rattle.model.specs.declared.Answer.{Answer}
-use Rattle.model.proofs.AnswerLaws.{Numbered, numbered, is-refused, is-value, is-done, is-sent, is-held, is-merged, is-lost}
+use Rattle.model.proofs.Calls.AnswerLaws.{Numbered, numbered, is-refused, is-value, is-done, is-sent, is-held, is-merged, is-lost}
 use Rattle.capi.specs.Numbers.{numbers, numbersOf}
 use borrow.Author.Needs.{needs}
 use Rattle.capi.proofs.bytes.numbers_of.Statement.{statement}

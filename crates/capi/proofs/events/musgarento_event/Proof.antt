@@ -1,13 +1,20 @@
+-- 60 where the bytes are no card's; else the event on the card that they hold, its card and its answer handed back. Assumes nothing.
 use denote.Ref.{now}
 use mathlib.Core.Path.{refl}
-use Rattle.model.specs.Calls.{call, event}
-use Rattle.model.proofs.OutcomeLaws.{no-value}
+use Rattle.model.specs.Calls.{Operation, call, event}
+use Rattle.model.proofs.Calls.OutcomeLaws.{no-value}
 use Rattle.capi.specs.Crossing.{wellFormed, lent}
 use Rattle.capi.proofs.CardFor.{card-room, card-size}
 use Rattle.capi.proofs.CrossingFor.{no-card, answers-back}
 use borrow.Author.Needs.{needs}
 use Rattle.capi.proofs.events.musgarento_event.Statement.{statement}
 use Rattle.capi.proofs.events.musgarento_event.Tie as tie
+
+-- what is played, as the test of the bytes finds it
+abbrev operation : tie.After-is-card → Operation
+operation c =
+    let start = c .before .before .before .before .before .before in
+    call (event (start .args .number) (now (start .args .out)))
 
 is-card-requires : tie.Need-is-card-requires
 is-card-requires c κs = search needs
@@ -17,7 +24,7 @@ same-length c = search needs
 
 returns : tie.Need-returns
 unfolding wellFormed lent
-returns c = no-card _ _ _ (call (event (c .before .before .before .before .before .before .before .args .number) (now (c .before .before .before .before .before .before .before .args .out)))) refl _ (c .before .is-card .ensures) _ refl (c .if1 .taken)
+returns c = no-card _ _ _ (operation (c .before)) refl _ (c .before .is-card .ensures) _ refl (c .if1 .taken)
 
 card-of-requires : tie.Need-card-of-requires
 card-of-requires c κs = card-room _ _ (c .before .before .is-card .ensures) (c .before .if1 .left)
@@ -26,7 +33,10 @@ event-requires : tie.Need-event-requires
 event-requires c κs = search needs
 
 hand-back-requires : tie.Need-hand-back-requires
-hand-back-requires c κs = card-size _ _ (c .before .before .before .before .before .before .before .before .before .before .before .is-card .ensures) (c .before .before .before .before .before .before .before .before .before .before .if1 .left)
+hand-back-requires c κs =
+    let at-if1 = c .before .before .before .before .before .before .before .before .before .before in
+    let at-is-card = at-if1 .before in
+    card-size _ _ (at-is-card .is-card .ensures) (at-if1 .if1 .left)
 
 same-length-2 : tie.Need-same-length-2
 same-length-2 c = search needs
@@ -39,7 +49,15 @@ same-length-4 c = search needs
 
 returns-2 : tie.Need-returns-2
 unfolding wellFormed
-returns-2 c = answers-back _ _ _ (call (event (c .before .before .before .before .before .before .before .before .before .before .before .before .before .before .before .before .before .before .before .before .args .number) (now (c .before .before .before .before .before .before .before .before .before .before .before .before .before .before .before .before .before .before .before .before .args .out)))) refl _ (c .before .before .before .before .before .before .before .before .before .before .before .before .before .before .is-card .ensures) (c .before .before .before .before .before .before .before .before .before .before .before .before .before .if1 .left) _ (c .before .before .before .before .before .before .before .before .before .before .before .card-of .ensures) _ _ _ _ (c .before .before .before .before .before .before .before .before .event .ensures) _ (c .before .before .hand-back .ensures .0) _ (c .before .before .hand-back .ensures .1) (no-value _ _ refl)
+returns-2 c =
+    let at-hand-back = c .before .before in
+    let at-event = at-hand-back .before .before .before .before .before .before in
+    let at-card-of = at-event .before .before .before in
+    let at-if1 = at-card-of .before .before in
+    let at-is-card = at-if1 .before in
+    answers-back _ _ _ (operation at-is-card) refl _ (at-is-card .is-card .ensures) (at-if1 .if1 .left) _
+    (at-card-of .card-of .ensures) _ _ _ _ (at-event .event .ensures) _ (at-hand-back .hand-back .ensures .0) _ (at-hand-back .hand-back .ensures .1)
+    (no-value _ _ refl)
 
 pub musgarento-event-spec : {M : Type 1} → statement M
 musgarento-event-spec =

@@ -1,3 +1,4 @@
+-- 60 by each wrong length in turn; else the start, its card handed back. Assumes nothing.
 use Rattle.capi.proofs.StartFor.{wrong-card, wrong-config, wrong-sizes, starts-back}
 use borrow.Author.Needs.{needs}
 use Rattle.capi.proofs.starts.musgarento_start.Statement.{statement}
@@ -34,7 +35,16 @@ same-length-3 : tie.Need-same-length-3
 same-length-3 c = search needs
 
 returns-4 : tie.Need-returns-4
-returns-4 c = starts-back _ _ _ _ _ _ _ (c .before .before .before .before .before .before .before .before .before .before .before .before .before .before .before .if1 .left) (c .before .before .before .before .before .before .before .before .before .before .before .before .before .before .if2 .left) (c .before .before .before .before .before .before .before .before .before .before .before .before .before .if3 .left) _ _ (c .before .before .before .before .before .before .before .before .before .before .before .before .config-of .ensures) (c .before .before .before .before .before .before .before .before .before .before .before .sizes-of .ensures) _ _ _ (c .before .before .before .before .before .before .before .before .start .ensures) _ (c .before .before .hand-back .ensures .0) _ (c .before .before .hand-back .ensures .1)
+returns-4 c =
+    let at-hand-back = c .before .before in
+    let at-start = at-hand-back .before .before .before .before .before .before in
+    let at-sizes-of = at-start .before .before .before in
+    let at-config-of = at-sizes-of .before in
+    let at-if3 = at-config-of .before in
+    let at-if2 = at-if3 .before in
+    let at-if1 = at-if2 .before in
+    starts-back _ _ _ _ _ _ _ (at-if1 .if1 .left) (at-if2 .if2 .left) (at-if3 .if3 .left) _ _ (at-config-of .config-of .ensures)
+    (at-sizes-of .sizes-of .ensures) _ _ _ (at-start .start .ensures) _ (at-hand-back .hand-back .ensures .0) _ (at-hand-back .hand-back .ensures .1)
 
 pub musgarento-start-spec : {M : Type 1} → statement M
 musgarento-start-spec =

@@ -1,4 +1,4 @@
-use Rattle.model.proofs.AccessBounds.{wrong-width, zero-width, not-multiple, above}
+use Rattle.model.proofs.Registers.AccessBounds.{wrong-width, zero-width, not-multiple, above}
 use borrow.Author.Needs.{needs}
 use Rattle.config_access.proofs.bounds.bad_config.Statement.{statement}
 use Rattle.config_access.proofs.bounds.bad_config.Tie as tie

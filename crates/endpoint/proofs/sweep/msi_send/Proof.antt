@@ -1,5 +1,7 @@
-use mathlib.Core.Path.{sym, ap, _∙_}
+-- The messages of the word of owed vectors are written, and its bits cleared. Assumes nothing.
+use mathlib.Core.Path.{_∙_}
 use mathlib.Core.List.{[]}
+use Prim.Native.Nat.{_^_, _<_}
 use Rattle.words.proofs.BitLaws.{and-not}
 use Rattle.model.specs.World.{endpointOf}
 use Rattle.endpoint.proofs.SweepFor.{msi-bytes, msi-sent}
@@ -8,19 +10,42 @@ use Rattle.endpoint.proofs.sweep.msi_send.Statement.{statement}
 use Rattle.endpoint.proofs.sweep.msi_send.Tie as tie
 
 msi-owed-requires : tie.Need-msi-owed-requires
-msi-owed-requires c κs = search needs
+msi-owed-requires c κs =
+    let start = c .before .before .before in
+    let k = start .pre .0 in
+    (k .fits, k .form, λ t. k .mode t ∙ start .pre .1)
 
 msi-base-requires : tie.Need-msi-base-requires
-msi-base-requires c κs = search needs
+msi-base-requires c κs =
+    let at-msi-owed = c .before .before in
+    let start = at-msi-owed .before .before .before .before in
+    (start .pre .0 .fits, start .pre .0 .form)
 
 msi-send-requires : tie.Need-msi-send-requires
-msi-send-requires c κs = (c .before .msi-base .ensures .1, rw (msi-bytes _ (endpointOf _ [] []) _ _ (c .before .before .before .before .msi-owed .ensures (c .before .before .before .before .before .before .before .before .args .t1 .sizes) (c .before .before .before .before .before .before .before .before .args .t1 .events) (c .before .before .before .before .before .before .before .before .args .t1 .requester) (c .before .before .before .before .before .before .before .before .args .t1 .line) [] []) (c .before .msi-base .ensures .0 [])) at (c .before .before .before .before .before .before .before .before .pre .1 [] []))
+msi-send-requires c κs =
+    let at-msi-base = c .before in
+    let at-msi-owed = at-msi-base .before .before .before in
+    let start = at-msi-owed .before .before .before .before in
+    let f = start .args .t1 in
+    let owed = at-msi-owed .msi-owed .ensures (f .sizes) (f .events) (f .requester) (f .line) [] [] in
+    (at-msi-base .msi-base .ensures .1, rw (msi-bytes _ (endpointOf _ [] []) _ _ owed (at-msi-base .msi-base .ensures .0 [])) at (start .pre .2 [] []))
 
 same-length : tie.Need-same-length
 same-length c = search needs
 
+-- the waiting bits are a word
+word : (c : tie.Start) → c .args .t1 .waiting < 2 ^ 32
+word c = search needs
+
 returns : tie.Need-returns
-returns c = λ t p. msi-sent _ (endpointOf _ t p) _ _ _ _ _ _ (c .before .before .before .before .before .before .before .msi-owed .ensures _ _ _ _ t p) (c .before .before .before .before .msi-base .ensures .0 t) (search needs) (and-not 32 _ _ (search needs) (search needs)) (c .before .before .msi-send .ensures)
+returns c =
+    let at-msi-send = c .before .before in
+    let at-msi-base = at-msi-send .before .before in
+    let at-msi-owed = at-msi-base .before .before .before in
+    let start = at-msi-owed .before .before .before .before in
+    λ t p.
+    msi-sent _ (endpointOf _ t p) _ _ _ _ _ _ (at-msi-owed .msi-owed .ensures _ _ _ _ t p) (at-msi-base .msi-base .ensures .0 t) (search needs)
+    (and-not 32 _ _ (search needs) (word start)) (at-msi-send .msi-send .ensures)
 
 pub msi-send-spec : {M : Type 1} → statement M
 msi-send-spec =

@@ -1,3 +1,4 @@
+-- The word of owed vectors, and the message of vector 0. Assumes nothing.
 use mathlib.Core.Path.{sym, ap, _∙_}
 use lib.ListN.{length}
 use Rattle.model.specs.World.{endpointOf}
@@ -7,16 +8,27 @@ use Rattle.endpoint.proofs.sweep.msi_size.Statement.{statement}
 use Rattle.endpoint.proofs.sweep.msi_size.Tie as tie
 
 msi-owed-requires : tie.Need-msi-owed-requires
-msi-owed-requires c κs = search needs
+msi-owed-requires c κs =
+    let start = c .before .before in
+    let k = start .pre .0 in
+    (k .fits, k .form, λ t. k .mode t ∙ start .pre .1)
 
 msi-base-requires : tie.Need-msi-base-requires
-msi-base-requires c κs = search needs
+msi-base-requires c κs =
+    let at-msi-owed = c .before .before in
+    let start = at-msi-owed .before .before .before in
+    (start .pre .0 .fits, start .pre .0 .form)
 
 msi-size-requires : tie.Need-msi-size-requires
 msi-size-requires c κs = search needs
 
 returns : tie.Need-returns
-returns c = λ t p. c .msi-size .ensures _ _ _ ∙ sym (ap length (msi-bytes _ (endpointOf _ t p) _ _ (c .before .before .before .before .msi-owed .ensures _ _ _ _ t p) (c .before .msi-base .ensures .0 t)))
+returns c =
+    let at-msi-base = c .before in
+    let at-msi-owed = at-msi-base .before .before .before in
+    λ t p.
+    c .msi-size .ensures _ _ _
+    ∙ sym (ap length (msi-bytes _ (endpointOf _ t p) _ _ (at-msi-owed .msi-owed .ensures _ _ _ _ t p) (at-msi-base .msi-base .ensures .0 t)))
 
 pub msi-size-spec : {M : Type 1} → statement M
 msi-size-spec = tie.close (tie.spec msi-owed-requires msi-base-requires msi-size-requires returns)

@@ -58,12 +58,15 @@ same-length-2 c = search needs
 
 returns : tie.Need-returns
 returns c =
-    let s = c .before .before .before .before .before .before .before .before .before .before .before .before .before in
-    let l = now (s .args .image) in
-    let t = now (s .args .table) in
-    let p = now (s .args .pending) in (
-      c .before .before .before .before .before .before .before .put-slice .ensures .bytes ∙ copied l t 294 (294 + length t - 294) (omega (arith, s .pre)) (omega arith),
-      c .before .before .put-slice2 .ensures .bytes ∙ copied l p (294 + length t) (length l - (294 + length t)) (omega (arith, s .pre)) (omega (arith, s .pre)) ∙ rest l p (length t) (s .pre),
+    let at-put-slice2 = c .before .before in
+    let at-put-slice = at-put-slice2 .before .before .before .before .before in
+    let start = at-put-slice .before .before .before .before .before .before in
+    let l = now (start .args .image) in
+    let t = now (start .args .table) in
+    let p = now (start .args .pending) in (
+      at-put-slice .put-slice .ensures .bytes ∙ copied l t 294 (294 + length t - 294) (omega (arith, start .pre)) (omega arith),
+      at-put-slice2 .put-slice2 .ensures .bytes ∙ copied l p (294 + length t) (length l - (294 + length t)) (omega (arith, start .pre))
+          (omega (arith, start .pre)) ∙ rest l p (length t) (start .pre),
     )
 
 pub copy-buffers-spec : {M : Type 1} → statement M

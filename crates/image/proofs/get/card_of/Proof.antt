@@ -1,8 +1,8 @@
 -- The reader, from the flags on. Assumes nothing.
-use Rattle.image.specs.Held.{cardIn}
 use borrow.Author.Needs.{needs}
 use Rattle.image.proofs.get.card_of.Statement.{statement}
 use Rattle.image.proofs.get.card_of.Tie as tie
+use Rattle.model.specs.Image.{cardIn}
 
 function-from-requires : tie.Need-function-from-requires
 function-from-requires c κs = search needs

@@ -1,8 +1,8 @@
 -- Each field is read at its offset. Assumes nothing.
-use Rattle.image.specs.Held.{functionFrom}
 use borrow.Author.Needs.{needs}
 use Rattle.image.proofs.get.function_from.Statement.{statement}
 use Rattle.image.proofs.get.function_from.Tie as tie
+use Rattle.model.specs.Image.{functionFrom}
 
 sub-config-at : tie.Need-sub-config-at
 sub-config-at c = search needs

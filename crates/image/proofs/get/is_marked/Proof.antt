@@ -24,7 +24,11 @@ array-read-if3 : tie.Need-array-read-if3
 array-read-if3 c = search needs
 
 returns-3 : tie.Need-returns-3
-returns-3 c = second (now (c .before .before .before .before .before .args .image)) (c .before .before .before .before .if1 .left) (c .before .before .if2 .left) (c .if3 .taken)
+returns-3 c =
+    let at-if2 = c .before .before in
+    let at-if1 = at-if2 .before .before in
+    let start = at-if1 .before in
+    second (now (start .args .image)) (at-if1 .if1 .left) (at-if2 .if2 .left) (c .if3 .taken)
 
 shared-slice-read-result : tie.Need-shared-slice-read-result
 shared-slice-read-result c = search needs
@@ -33,7 +37,11 @@ array-read-result : tie.Need-array-read-result
 array-read-result c = search needs
 
 returns-4 : tie.Need-returns-4
-returns-4 c = third (now (c .before .before .before .before .before .before .args .image)) (c .before .before .before .before .before .if1 .left) (c .before .before .before .if2 .left) (c .before .if3 .left)
+returns-4 c =
+    let at-if2 = c .before .before .before in
+    let at-if1 = at-if2 .before .before in
+    let start = at-if1 .before in
+    third (now (start .args .image)) (at-if1 .if1 .left) (at-if2 .if2 .left) (c .before .if3 .left)
 
 pub is-marked-spec : {M : Type 1} → statement M
 is-marked-spec =

@@ -47,8 +47,10 @@ loop-less c = search needs
 
 loop-again : tie.Need-loop-again Inv-loop μ-loop
 loop-again c =
-    let v = c .before .before .loop in
-    let a = c .before .before .before .before .args in
+    let at-loop = c .before .before in
+    let start = at-loop .before .before in
+    let v = at-loop .loop in
+    let a = start .args in
     let s = now (a .s) in
     let w = words32 6 (drop (a .at) s) in
     let e = c .word32 .ensures ∙ sym (byte-words 6 (drop (a .at) s) (v .i) (omega arith) ∙ word-drop s (a .at) _) in

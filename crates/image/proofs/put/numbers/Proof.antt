@@ -43,7 +43,10 @@ cast-t30 c = search needs
 
 returns : tie.Need-returns
 unfolding numberBytes bytesOf
-returns c = let d = c .before .before .before .before .before .before .before .before in rw (d .before .flag .ensures .0, d .flag2 .ensures .0)
+returns c =
+    let at-flag2 = c .before .before .before .before .before .before .before .before in
+    let at-flag = at-flag2 .before in
+    rw (at-flag .flag .ensures .0, at-flag2 .flag2 .ensures .0)
 
 pub numbers-spec : {M : Type 1} → statement M
 numbers-spec =

@@ -1,8 +1,8 @@
 -- Numbers, sizes and configuration, one writer behind the other. Assumes nothing.
 use denote.Ref.{now}
-use mathlib.Core.Path.{_≡_, ap, _∙_}
+use mathlib.Core.Path.{_≡_, ap, subst, _∙_}
 use mathlib.Core.List.{List, [], _++_}
-use Prim.Native.Nat.{ℕ, _+_, _-_}
+use Prim.Native.Nat.{ℕ, _+_, _-_, _≤_}
 use native.Mathlib.Omega.{arith}
 use lib.ListN.{length, length-take, length-drop}
 use borrow.Rule.Slice.PartMut.{putMid}
@@ -16,21 +16,40 @@ use borrow.Author.Needs.{needs}
 use Rattle.image.proofs.put.put_card.Statement.{statement}
 use Rattle.image.proofs.put.put_card.Tie as tie
 
--- the output with numbers and sizes
-abbrev out₂ : tie.After-slice-known3 → List ℕ
-out₂ c =
-    let k = c .before .before .before .before .before .before .put-slice in
-    putMid (k .result) (length (k .last .0) - k .result) (k .last .0) (c .before .before .put-sizes .last .0)
+-- the lengths of the card's arrays
+sizes-known : (s : tie.Start) → length (s .args .card .function .sizes) ≡ 6
+sizes-known s = search needs
 
-counts : (c : tie.After-slice-known3)
-    → (c .before .before .before .before .before .before .put-slice .result ≡ 9) × (c .before .before .put-sizes .result ≡ 24) × (length (out₂ c) ≡ length (c .before .before .before .before .before .before .before .before .before .before .before .before .before .args .out .now))
-counts c =
-    let k = c .before .before .before .before .before .before .put-slice in
-    let z : length (c .before .before .before .before .before .before .before .before .before .before .before .before .before .args .card .function .sizes) ≡ 6 = search needs in (
-      k .ensures .count ∙ ap length (c .before .before .before .before .before .before .before .before .before .before .before .numbers .ensures) ∙ number-length (c .before .before .before .before .before .before .before .before .before .before .before .before .before .args .card),
-      c .before .before .put-sizes .ensures .count ∙ sizes-length (c .before .before .before .before .before .before .before .before .before .before .before .before .before .args .card .function .sizes) z,
-      c .before .out2 .given .1 ∙ k .kept .0,
-    )
+config-known : (s : tie.Start) → length (s .args .card .function .config) ≡ 256
+config-known s = search needs
+
+-- numbers and sizes are written
+module _ (c : tie.After-slice-known3) where
+  abbrev at-put-sizes : tie.After-put-sizes
+  at-put-sizes = c .before .before
+
+  abbrev at-put-slice : tie.After-put-slice
+  at-put-slice = let at-known = at-put-sizes .before .before in at-known .before .before
+
+  abbrev at-numbers : tie.After-numbers
+  at-numbers = let at-config = at-put-slice .before .before .before in at-config .before .before
+
+  abbrev start : tie.Start
+  start = at-numbers .before .before
+
+  -- the output with both
+  abbrev out₂ : List ℕ
+  out₂ = let k = at-put-slice .put-slice in putMid (k .result) (length (k .last .0) - k .result) (k .last .0) (at-put-sizes .put-sizes .last .0)
+
+  nine : at-put-slice .put-slice .result ≡ 9
+  nine = at-put-slice .put-slice .ensures .count ∙ ap length (at-numbers .numbers .ensures) ∙ number-length (start .args .card)
+
+  twenty-four : at-put-sizes .put-sizes .result ≡ 24
+  twenty-four = at-put-sizes .put-sizes .ensures .count ∙ sizes-length (start .args .card .function .sizes) (sizes-known start)
+
+  -- there is room for the configuration
+  room : at-put-slice .put-slice .result + at-put-sizes .put-sizes .result + 256 ≤ length out₂
+  room = omega (arith, nine, twenty-four, c .before .out2 .given .1 ∙ at-put-slice .put-slice .kept .0, start .pre)
 
 numbers-requires : tie.Need-numbers-requires
 numbers-requires c κs = search needs
@@ -54,13 +73,13 @@ put-sizes-requires : tie.Need-put-sizes-requires
 put-sizes-requires c κs = search needs
 
 add-b : tie.Need-add-b
-add-b c = let n = counts c in omega (arith, n .0, n .1)
+add-b c = omega (arith, nine c, twenty-four c)
 
 sub-put-slice : tie.Need-sub-put-slice
-sub-put-slice c = let n = counts c in omega (arith, n .0, n .1, n .2, c .before .before .before .before .before .before .before .before .before .before .before .before .before .pre)
+sub-put-slice c = omega (arith, room c)
 
 part-put-slice-start : tie.Need-part-put-slice-start
-part-put-slice-start c = let n = counts c in omega (arith, n .0, n .1, n .2, c .before .before .before .before .before .before .before .before .before .before .before .before .before .pre)
+part-put-slice-start c = omega (arith, room c)
 
 part-put-slice-end : tie.Need-part-put-slice-end
 part-put-slice-end c = search needs
@@ -70,31 +89,33 @@ slice-aggregate-put-slice-2 c = search needs
 
 put-slice-requires-2 : tie.Need-put-slice-requires-2
 put-slice-requires-2 c κs =
-    let n = counts (c .before .before) in
-    let m : length (c .before .before .before .before .before .before .before .before .before .before .before .before .before .before .before .args .card .function .config) ≡ 256 = search needs in
-    simp (length-take, length-drop) (omega (arith, n .0, n .1, n .2, m, c .before .before .before .before .before .before .before .before .before .before .before .before .before .before .before .pre))
+    let written = c .before .before in
+    simp (length-take, length-drop) (omega (arith, room written, config-known (start written)))
 
 add-result : tie.Need-add-result
 add-result c =
-    let n = counts (c .before .before .before .before .before) in
-    let m : length (c .before .before .before .before .before .before .before .before .before .before .before .before .before .before .before .before .before .before .args .card .function .config) ≡ 256 = search needs in
-    omega (arith, n .0, n .1, m, c .before .before .put-slice2 .ensures .count)
+    let at-put-slice2 = c .before .before in
+    let written = at-put-slice2 .before .before .before in
+    omega (arith, nine written, twenty-four written, config-known (start written), at-put-slice2 .put-slice2 .ensures .count)
 
 same-length : tie.Need-same-length
 same-length c = search needs
 
 returns : tie.Need-returns
 returns c =
-    let d = c .before .before .before .before .before in
-    let a = d .before .before .before .before .before .before .before .before .before .before .before .before .before .args in
-    let f = a .card .function in
-    let k₁ = d .before .before .before .before .before .before .put-slice in
-    let k₂ = d .before .before .put-sizes in
-    let k₃ = c .before .before .put-slice2 in
-    let one : Wrote (numberBytes (a .card)) (now (a .out)) (k₁ .result) (k₁ .last .0) = rw (d .before .before .before .before .before .before .before .before .before .before .before .numbers .ensures) at (k₁ .ensures) in
-    let two = behind (numberBytes (a .card)) (join (bytesOf 4) (f .sizes)) (now (a .out)) (k₁ .last .0) (k₂ .last .0) (k₁ .result) (k₂ .result) one (k₂ .ensures) in
+    let at-put-slice2 = c .before .before in
+    let written = at-put-slice2 .before .before .before in
+    let a = start written .args in
+    let o = now (a .out) in
+    let numbers = numberBytes (a .card) in
+    let sizes = join (bytesOf 4) (a .card .function .sizes) in
+    let k₁ = at-put-slice written .put-slice in
+    let k₂ = at-put-sizes written .put-sizes in
+    let k₃ = at-put-slice2 .put-slice2 in
+    let one = subst (λ (l : List ℕ). Wrote l o (k₁ .result) (k₁ .last .0)) (at-numbers written .numbers .ensures) (k₁ .ensures) in
+    let two = behind numbers sizes o (k₁ .last .0) (k₂ .last .0) (k₁ .result) (k₂ .result) one (k₂ .ensures) in
     rw (card-parts (a .card) [] [])
-    (behind (numberBytes (a .card) ++ join (bytesOf 4) (f .sizes)) (f .config) (now (a .out)) (out₂ d) (k₃ .last .0) (k₁ .result + k₂ .result) (k₃ .result) two (k₃ .ensures))
+    (behind (numbers ++ sizes) (a .card .function .config) o (out₂ written) (k₃ .last .0) (k₁ .result + k₂ .result) (k₃ .result) two (k₃ .ensures))
 
 pub put-card-spec : {M : Type 1} → statement M
 put-card-spec =

@@ -2,7 +2,7 @@
 use denote.Ref.{now}
 use mathlib.Core.Path.{_≡_, _∙_}
 use mathlib.Core.List.{List, [], _++_}
-use Prim.Native.Nat.{ℕ, _+_, _-_}
+use Prim.Native.Nat.{ℕ, _+_, _-_, _≤_}
 use native.Mathlib.Omega.{arith}
 use lib.ListN.{length, length-take, length-drop}
 use borrow.Rule.Slice.PartMut.{putMid}
@@ -15,81 +15,126 @@ use borrow.Author.Needs.{needs}
 use Rattle.image.proofs.put.put_image.Statement.{statement}
 use Rattle.image.proofs.put.put_image.Tie as tie
 
--- the output with mark, version and card, and with the table
-abbrev out₂ : tie.After-slice-known3 → List ℕ
-out₂ c =
-    let k = c .before .before .before .before .before .before .put-start in
-    putMid (k .result) (length (k .last .0) - k .result) (k .last .0) (c .before .before .put-card .last .0)
+-- the lengths of the card's arrays
+sizes-known : (s : tie.Start) → length (s .args .card .function .sizes) ≡ 6
+sizes-known s = search needs
 
-abbrev out₃ : tie.After-slice-known4 → List ℕ
-out₃ c =
-    let d = c .before .before .before .before in
-    let at = d .before .before .before .before .before .before .put-start .result + d .before .before .put-card .result in
-    putMid at (length (out₂ d) - at) (out₂ d) (c .before .before .put-slice .last .0)
+config-known : (s : tie.Start) → length (s .args .card .function .config) ≡ 256
+config-known s = search needs
 
--- how many bytes each writer wrote, and that the output keeps its length
-counts : (c : tie.After-slice-known2)
-    → (c .before .before .put-start .result ≡ 5) × (length (c .before .before .put-start .last .0) ≡ length (c .before .before .before .before .before .before .before .args .out .now))
-counts c = let k = c .before .before .put-start in (k .ensures .count ∙ start-length, k .kept .0)
+-- mark and version are written, and there is room for all that follows
+module _ (c : tie.After-slice-known2) where
+  abbrev at-put-start : tie.After-put-start
+  at-put-start = c .before .before
 
-counts₂ : (c : tie.After-slice-known3) → (c .before .before .put-card .result ≡ 289) × (length (out₂ c) ≡ length (c .before .before .before .before .before .before .before .before .before .before .before .args .out .now))
-counts₂ c =
-    let card = c .before .before .before .before .before .before .before .before .before .before .before .args .card in
-    let z : length (card .function .sizes) ≡ 6 = search needs in
-    let m : length (card .function .config) ≡ 256 = search needs in
-    (c .before .before .put-card .ensures .count ∙ card-length card [] [] z m, c .before .out2 .given .1 ∙ counts (c .before .before .before .before) .1)
+  abbrev start : tie.Start
+  start = let at-args = at-put-start .before .before .before in at-args .before .before
 
-counts₃ : (c : tie.After-slice-known4)
-    → (c .before .before .put-slice .result ≡ length (c .before .before .before .before .before .before .before .before .before .before .before .before .before .before .before .args .table .now)) × (length (out₃ c) ≡ length (c .before .before .before .before .before .before .before .before .before .before .before .before .before .before .before .args .out .now))
-counts₃ c = (c .before .before .put-slice .ensures .count, c .before .out3 .given .1 ∙ counts₂ (c .before .before .before .before) .1)
+  five : at-put-start .put-start .result ≡ 5
+  five = at-put-start .put-start .ensures .count ∙ start-length
+
+  kept : length (at-put-start .put-start .last .0) ≡ length (start .args .out .now)
+  kept = at-put-start .put-start .kept .0
+
+  room : at-put-start .put-start .result + 289 + length (start .args .table .now) + length (start .args .pending .now)
+      ≤ length (at-put-start .put-start .last .0)
+  room = omega (arith, five, kept, start .pre)
+
+-- the card is written
+module _ (c : tie.After-slice-known3) where
+  abbrev at-put-card : tie.After-put-card
+  at-put-card = c .before .before
+
+  abbrev begun : tie.After-slice-known2
+  begun = at-put-card .before .before
+
+  abbrev at₂ : ℕ
+  at₂ = at-put-start begun .put-start .result + at-put-card .put-card .result
+
+  abbrev out₂ : List ℕ
+  out₂ = let k = at-put-start begun .put-start in putMid (k .result) (length (k .last .0) - k .result) (k .last .0) (at-put-card .put-card .last .0)
+
+  card-wrote : at-put-card .put-card .result ≡ 289
+  card-wrote =
+      let s = start begun in
+      at-put-card .put-card .ensures .count ∙ card-length (s .args .card) [] [] (sizes-known s) (config-known s)
+
+  kept₂ : length out₂ ≡ length (start begun .args .out .now)
+  kept₂ = c .before .out2 .given .1 ∙ kept begun
+
+  room₂ : at₂ + length (start begun .args .table .now) + length (start begun .args .pending .now) ≤ length out₂
+  room₂ = omega (arith, five begun, card-wrote, kept₂, start begun .pre)
+
+-- the table is written
+module _ (c : tie.After-slice-known4) where
+  abbrev at-put-slice : tie.After-put-slice
+  at-put-slice = c .before .before
+
+  abbrev with-card : tie.After-slice-known3
+  with-card = at-put-slice .before .before
+
+  abbrev out₃ : List ℕ
+  out₃ = let o = out₂ with-card in putMid (at₂ with-card) (length o - at₂ with-card) o (at-put-slice .put-slice .last .0)
+
+  table-wrote : at-put-slice .put-slice .result ≡ length (start (begun with-card) .args .table .now)
+  table-wrote = at-put-slice .put-slice .ensures .count
+
+  kept₃ : length out₃ ≡ length (start (begun with-card) .args .out .now)
+  kept₃ = c .before .out3 .given .1 ∙ kept₂ with-card
+
+  room₃ : at₂ with-card + at-put-slice .put-slice .result + length (start (begun with-card) .args .pending .now) ≤ length out₃
+  room₃ = omega (arith, room₂ with-card, kept₂ with-card, table-wrote, kept₃)
 
 put-start-requires : tie.Need-put-start-requires
 put-start-requires c κs = search needs
 
 sub-put-card : tie.Need-sub-put-card
-sub-put-card c = let n = counts c in omega (arith, n .0, n .1, c .before .before .before .before .before .before .before .pre)
+sub-put-card c = omega (arith, room c)
 
 part-put-card-start : tie.Need-part-put-card-start
-part-put-card-start c = let n = counts c in omega (arith, n .0, n .1, c .before .before .before .before .before .before .before .pre)
+part-put-card-start c = omega (arith, room c)
 
 part-put-card-end : tie.Need-part-put-card-end
 part-put-card-end c = search needs
 
 put-card-requires : tie.Need-put-card-requires
-put-card-requires c κs = let n = counts (c .before) in simp (length-take, length-drop) (omega (arith, n .0, n .1, c .before .before .before .before .before .before .before .before .pre))
+put-card-requires c κs = simp (length-take, length-drop) (omega (arith, room (c .before)))
 
 add-b : tie.Need-add-b
-add-b c = omega (arith, counts (c .before .before .before .before) .0, counts₂ c .0)
+add-b c = omega (arith, five (begun c), card-wrote c)
 
 sub-put-slice : tie.Need-sub-put-slice
-sub-put-slice c = let n = counts₂ c in omega (arith, counts (c .before .before .before .before) .0, n .0, n .1, c .before .before .before .before .before .before .before .before .before .before .before .pre)
+sub-put-slice c = omega (arith, room₂ c)
 
 part-put-slice-start : tie.Need-part-put-slice-start
-part-put-slice-start c = let n = counts₂ c in omega (arith, counts (c .before .before .before .before) .0, n .0, n .1, c .before .before .before .before .before .before .before .before .before .before .before .pre)
+part-put-slice-start c = omega (arith, room₂ c)
 
 part-put-slice-end : tie.Need-part-put-slice-end
 part-put-slice-end c = search needs
 
 put-slice-requires : tie.Need-put-slice-requires
-put-slice-requires c κs = let n = counts₂ (c .before) in simp (length-take, length-drop) (omega (arith, counts (c .before .before .before .before .before) .0, n .0, n .1, c .before .before .before .before .before .before .before .before .before .before .before .before .pre))
+put-slice-requires c κs = simp (length-take, length-drop) (omega (arith, room₂ (c .before)))
 
 add-c : tie.Need-add-c
-add-c c = let n = counts₃ c in omega (arith, counts (c .before .before .before .before .before .before .before .before) .0, counts₂ (c .before .before .before .before) .0, n .0, c .before .before .before .before .before .before .before .before .before .before .before .before .before .before .before .pre)
+add-c c = omega (arith, room₃ c)
 
 sub-put-slice-2 : tie.Need-sub-put-slice-2
-sub-put-slice-2 c = let n = counts₃ c in omega (arith, counts (c .before .before .before .before .before .before .before .before) .0, counts₂ (c .before .before .before .before) .0, n .0, n .1, c .before .before .before .before .before .before .before .before .before .before .before .before .before .before .before .pre)
+sub-put-slice-2 c = omega (arith, room₃ c)
 
 part-put-slice-start-2 : tie.Need-part-put-slice-start-2
-part-put-slice-start-2 c = let n = counts₃ c in omega (arith, counts (c .before .before .before .before .before .before .before .before) .0, counts₂ (c .before .before .before .before) .0, n .0, n .1, c .before .before .before .before .before .before .before .before .before .before .before .before .before .before .before .pre)
+part-put-slice-start-2 c = omega (arith, room₃ c)
 
 part-put-slice-end-2 : tie.Need-part-put-slice-end-2
 part-put-slice-end-2 c = search needs
 
 put-slice-requires-2 : tie.Need-put-slice-requires-2
-put-slice-requires-2 c κs = let n = counts₃ (c .before) in simp (length-take, length-drop) (omega (arith, counts (c .before .before .before .before .before .before .before .before .before) .0, counts₂ (c .before .before .before .before .before) .0, n .0, n .1, c .before .before .before .before .before .before .before .before .before .before .before .before .before .before .before .before .pre))
+put-slice-requires-2 c κs = simp (length-take, length-drop) (omega (arith, room₃ (c .before)))
 
 add-result : tie.Need-add-result
-add-result c = let n = counts₃ (c .before .before .before .before) in omega (arith, counts (c .before .before .before .before .before .before .before .before .before .before .before .before) .0, counts₂ (c .before .before .before .before .before .before .before .before) .0, n .0, c .before .before .put-slice2 .ensures .count, c .before .before .before .before .before .before .before .before .before .before .before .before .before .before .before .before .before .before .before .pre, c .before .before .before .before .before .before .before .before .before .before .before .before .before .before .before .before .before .before .before .good)
+add-result c =
+    let at-put-slice2 = c .before .before in
+    let with-table = at-put-slice2 .before .before in
+    omega (arith, room₃ with-table, kept₃ with-table, start (begun (with-card with-table)) .good, at-put-slice2 .put-slice2 .ensures .count)
 
 same-length : tie.Need-same-length
 same-length c = search needs
@@ -97,21 +142,22 @@ same-length c = search needs
 returns : tie.Need-returns
 unfolding imageOf
 returns c =
-    let e = c .before .before .before .before in
-    let d = e .before .before .before .before in
-    let a = d .before .before .before .before .before .before .before .before .before .before .before .args in
+    let at-put-slice2 = c .before .before in
+    let with-table = at-put-slice2 .before .before in
+    let d = with-card with-table in
+    let a = start (begun d) .args in
     let o = now (a .out) in
     let t = now (a .table) in
     let p = now (a .pending) in
     let card = cardBytes (worldOf (a .card) [] []) in
-    let k₁ = d .before .before .before .before .before .before .put-start in
-    let k₂ = d .before .before .put-card in
-    let k₃ = e .before .before .put-slice in
-    let k₄ = c .before .before .put-slice2 in
+    let k₁ = at-put-start (begun d) .put-start in
+    let k₂ = at-put-card d .put-card in
+    let k₃ = at-put-slice with-table .put-slice in
+    let k₄ = at-put-slice2 .put-slice2 in
     let two = behind (mark ++ bytesOf 2 1) card o (k₁ .last .0) (k₂ .last .0) (k₁ .result) (k₂ .result) (k₁ .ensures) (k₂ .ensures) in
-    let three = behind (mark ++ bytesOf 2 1 ++ card) t o (out₂ d) (k₃ .last .0) (k₁ .result + k₂ .result) (k₃ .result) two (k₃ .ensures) in
+    let three = behind (mark ++ bytesOf 2 1 ++ card) t o (out₂ d) (k₃ .last .0) (at₂ d) (k₃ .result) two (k₃ .ensures) in
     rw (card-alone (a .card) t p)
-    (behind (mark ++ bytesOf 2 1 ++ card ++ t) p o (out₃ e) (k₄ .last .0) (k₁ .result + k₂ .result + k₃ .result) (k₄ .result) three (k₄ .ensures))
+    (behind (mark ++ bytesOf 2 1 ++ card ++ t) p o (out₃ with-table) (k₄ .last .0) (at₂ d + k₃ .result) (k₄ .result) three (k₄ .ensures))
 
 pub put-image-spec : {M : Type 1} → statement M
 put-image-spec =

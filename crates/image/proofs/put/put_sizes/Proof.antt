@@ -1,6 +1,7 @@
 -- The bytes of the sizes from place i on are still to be written. Assumes nothing.
 use mathlib.Core.Path.{_≡_, refl, _∙_}
-use Prim.Native.Nat.{_*_, _-_, _≤_}
+use mathlib.Core.List.{List}
+use Prim.Native.Nat.{ℕ, _*_, _-_, _≤_}
 use native.Mathlib.Omega.{arith}
 use lib.ListN.{length, drop, length-take, length-drop}
 use Rattle.words.specs.Lists.{join}
@@ -18,6 +19,17 @@ Inv-loop out₀ sizes at₀ i₀ out at i =
 
 abbrev μ-loop : tie.MeasureT-loop
 μ-loop out₀ sizes at₀ i₀ out at i = 6 - i
+
+-- a turn: the size that it writes has four bytes
+module _ (c : tie.After-put-le Inv-loop μ-loop) where
+  abbrev at-loop : tie.At-loop Inv-loop μ-loop
+  at-loop = c .before .before .before
+
+  abbrev sizes : List ℕ
+  sizes = at-loop .before .before .args .t2
+
+  four : c .put-le .result ≡ 4
+  four = c .put-le .ensures .count ∙ length-bytesOf 4 (byte sizes (at-loop .loop .i))
 
 loop-holds : tie.Need-loop-holds Inv-loop μ-loop
 loop-holds c = (omega arith, refl, refl, refl)
@@ -45,9 +57,8 @@ put-le-requires c κs = simp (length-take, length-drop) (omega arith)
 
 add-at : tie.Need-add-at Inv-loop μ-loop
 add-at c =
-    let v = c .before .before .before .before .before .loop in
-    let sizes = c .before .before .before .before .before .before .before .args .t2 in
-    omega (arith, v .inv, c .before .before .put-le .ensures .count, length-bytesOf 4 (byte sizes (v .i)))
+    let at-put-le = c .before .before in
+    omega (arith, at-loop at-put-le .loop .inv, four at-put-le)
 
 add-i : tie.Need-add-i Inv-loop μ-loop
 add-i c = search needs
@@ -57,15 +68,14 @@ loop-less c = search needs
 
 loop-again : tie.Need-loop-again Inv-loop μ-loop
 loop-again c =
-    let v = c .before .before .before .before .before .loop in
-    let sizes = c .before .before .before .before .before .before .before .args .t2 in
-    let k = c .before .before .put-le in
-    let n : length sizes ≡ 6 = search needs in
-    let m : k .result ≡ 4 = k .ensures .count ∙ length-bytesOf 4 (byte sizes (v .i)) in (
+    let at-put-le = c .before .before in
+    let v = at-loop at-put-le .loop in
+    let k = at-put-le .put-le in
+    let n : length (sizes at-put-le) ≡ 6 = search needs in (
       omega arith,
-      omega (arith, v .inv, m),
+      omega (arith, v .inv, four at-put-le),
       c .before .out .given .1 ∙ v .inv .2,
-      join-next (bytesOf 4) sizes (v .i) (v .at) (v .out) _ (v .inv .3) (k .result) (k .last .0) (omega (arith, v .inv, n)) (omega (arith, v .inv)) (k .ensures),
+      join-next (bytesOf 4) (sizes at-put-le) (v .i) (v .at) (v .out) _ (v .inv .3) (k .result) (k .last .0) (omega (arith, v .inv, n)) (omega (arith, v .inv)) (k .ensures),
     )
 
 same-length : tie.Need-same-length Inv-loop μ-loop

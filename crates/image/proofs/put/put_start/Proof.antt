@@ -30,7 +30,10 @@ put-le-requires : tie.Need-put-le-requires
 put-le-requires c κs = search needs
 
 add-result : tie.Need-add-result
-add-result c = omega (arith, c .before .before .before .before .before .before .put-slice .ensures .count, c .before .before .put-le .ensures .count, length-bytesOf 2 1)
+add-result c =
+    let at-put-le = c .before .before in
+    let at-put-slice = at-put-le .before .before .before .before in
+    omega (arith, at-put-slice .put-slice .ensures .count, at-put-le .put-le .ensures .count, length-bytesOf 2 1)
 
 same-length : tie.Need-same-length
 same-length c = search needs
@@ -38,8 +41,10 @@ same-length c = search needs
 returns : tie.Need-returns
 unfolding mark
 returns c =
-    let k₁ = c .before .before .before .before .before .before .put-slice in
-    let k₂ = c .before .before .put-le in
+    let at-put-le = c .before .before in
+    let at-put-slice = at-put-le .before .before .before .before in
+    let k₁ = at-put-slice .put-slice in
+    let k₂ = at-put-le .put-le in
     behind mark (bytesOf 2 1) _ (k₁ .last .0) (k₂ .last .0) (k₁ .result) (k₂ .result) (k₁ .ensures) (k₂ .ensures)
 
 pub put-start-spec : {M : Type 1} → statement M

@@ -1,47 +1,85 @@
+-- Sent, merged or held: one law for each. Assumes nothing.
 use denote.Ref.{now}
-use mathlib.Core.Path.{_∙_}
-use Rattle.model.specs.World.{worldOf}
-use Rattle.vectors.proofs.FitShapeLaws.{fit-shape}
+use mathlib.Core.Path.{refl, _∙_}
+use mathlib.Core.Bool.{Bool}
+use mathlib.Core.List.{List}
+use Prim.Native.Nat.{ℕ}
+use Rattle.model.specs.declared.Card.{Card}
+use Rattle.model.specs.World.{Endpoint, worldOf}
+use Rattle.card.specs.Running.{cardWith}
 use Rattle.interrupt.proofs.EventFor.{raised-open, raised-merged, raised-held}
 use borrow.Author.Needs.{needs}
 use Rattle.interrupt.proofs.event.raise.Statement.{statement}
 use Rattle.interrupt.proofs.event.raise.Tie as tie
 
+-- a card of which the parts are given, and its function
+abbrev card-of : tie.Start → List ℕ → ℕ → Bool → Bool → Card
+card-of c sizes events line wire = let a = c .args in cardWith (now (a .config)) sizes events (a .requester) line (a .waiting) wire
+
+abbrev unit : tie.Start → List ℕ → ℕ → Bool → Bool → Endpoint
+unit c sizes events line wire = let a = c .args in worldOf (card-of c sizes events line wire) (now (a .table)) (now (a .pending)) .endpoint
+
 is-open-requires : tie.Need-is-open-requires
-is-open-requires c κs = search needs
+is-open-requires c κs =
+    let start = c .before .before .before in
+    (start .pre .0, start .pre .1 .table)
 
 send-requires : tie.Need-send-requires
-send-requires c κs = search needs
+send-requires c κs =
+    let at-is-open = c .before .before in
+    let start = at-is-open .before .before .before .before in
+    (start .pre .0, start .pre .1 .table, start .pre .2)
 
 same-length : tie.Need-same-length
 same-length c = search needs
 
 returns : tie.Need-returns
-returns c = (c .before .before .send .ensures) _ ∙ raised-open _ _ _ _ _ _ _ _ (c .before .before .before .before .before .is-open .ensures) (c .before .before .before .before .if1 .taken)
+returns c =
+    let at-send = c .before .before in
+    let at-if1 = at-send .before .before in
+    let at-is-open = at-if1 .before in
+    let start = at-is-open .before .before .before .before in
+    λ z e l y.
+    at-send .send .ensures (now (start .args .pending)) z e l y
+    ∙ raised-open (card-of start z e l y) _ _ _ _ _ _ _ (at-is-open .is-open .ensures) (at-if1 .if1 .taken)
 
 waits-requires : tie.Need-waits-requires
 waits-requires c κs = search needs
-
-accepted-requires : tie.Need-accepted-requires
-accepted-requires c κs = search needs
 
 same-length-2 : tie.Need-same-length-2
 same-length-2 c = search needs
 
 returns-2 : tie.Need-returns-2
-returns-2 c = raised-merged _ _ _ _ _ _ _ _ (c .before .before .before .before .before .is-open .ensures) _ ((c .before .before .waits .ensures) (worldOf (c .before .before .before .before .before .before .before .before .before .before .before .before .args .card) (now (c .before .before .before .before .before .before .before .before .before .before .before .before .args .table)) (now (c .before .before .before .before .before .before .before .before .before .before .before .before .args .pending)) .endpoint)) _ (c .before .before .before .before .if1 .left) (c .before .if2 .taken) (c .accepted .ensures)
+returns-2 c =
+    let at-waits = c .before in
+    let at-if1 = at-waits .before .before in
+    let at-is-open = at-if1 .before in
+    let start = at-is-open .before .before .before .before in
+    λ z e l y.
+    raised-merged (card-of start z e l y) _ _ _ _ _ _ _ (at-is-open .is-open .ensures) _ (at-waits .waits .ensures (unit start z e l y)) _
+    (at-if1 .if1 .left) (c .if2 .taken) refl
 
 hold-requires : tie.Need-hold-requires
-hold-requires c κs = search needs
-
-accepted-requires-2 : tie.Need-accepted-requires-2
-accepted-requires-2 c κs = search needs
+hold-requires c κs =
+    let at-waits = c .before .before in
+    let at-is-open = at-waits .before .before .before in
+    let start = at-is-open .before .before .before .before in
+    (start .pre .1 .shape .capable, start .pre .1 .pending, start .pre .2)
 
 same-length-3 : tie.Need-same-length-3
 same-length-3 c = search needs
 
 returns-3 : tie.Need-returns-3
-returns-3 c = raised-held _ _ _ _ _ _ _ _ (c .before .before .before .before .before .before .before .before .before .is-open .ensures) _ ((c .before .before .before .before .before .before .waits .ensures) (worldOf (c .before .before .before .before .before .before .before .before .before .before .before .before .before .before .before .before .args .card) (now (c .before .before .before .before .before .before .before .before .before .before .before .before .before .before .before .before .args .table)) (now (c .before .before .before .before .before .before .before .before .before .before .before .before .before .before .before .before .args .pending)) .endpoint)) _ _ _ (c .before .before .before .before .before .before .before .before .if1 .left) (c .before .before .before .before .before .if2 .left) ((c .before .before .before .hold .ensures) _) (c .accepted2 .ensures)
+returns-3 c =
+    let at-hold = c .before .before in
+    let at-if2 = at-hold .before .before in
+    let at-waits = at-if2 .before in
+    let at-if1 = at-waits .before .before in
+    let at-is-open = at-if1 .before in
+    let start = at-is-open .before .before .before .before in
+    λ z e l y.
+    raised-held (card-of start z e l y) _ _ _ _ _ _ _ (at-is-open .is-open .ensures) _ (at-waits .waits .ensures (unit start z e l y)) _ _ _
+    (at-if1 .if1 .left) (at-if2 .if2 .left) (at-hold .hold .ensures (unit start z e l y)) refl
 
 pub raise-spec : {M : Type 1} → statement M
 raise-spec =
@@ -52,10 +90,8 @@ raise-spec =
     same-length
     returns
     waits-requires
-    accepted-requires
     same-length-2
     returns-2
     hold-requires
-    accepted-requires-2
     same-length-3
     returns-3)

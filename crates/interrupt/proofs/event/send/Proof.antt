@@ -1,7 +1,19 @@
+-- 6, or the message is written. Assumes nothing.
+use denote.Ref.{now}
+use mathlib.Core.Path.{refl}
+use mathlib.Core.Bool.{Bool}
+use mathlib.Core.List.{List}
+use Prim.Native.Nat.{ℕ}
+use Rattle.model.specs.declared.Card.{Card}
+use Rattle.card.specs.Running.{cardWith}
 use Rattle.interrupt.proofs.EventFor.{send-short, send-done}
 use borrow.Author.Needs.{needs}
 use Rattle.interrupt.proofs.event.send.Statement.{statement}
 use Rattle.interrupt.proofs.event.send.Tie as tie
+
+-- a card of which the parts are given
+abbrev card-of : tie.Start → List ℕ → ℕ → Bool → Bool → Card
+card-of c sizes events line wire = let a = c .args in cardWith (now (a .config)) sizes events (a .requester) line (a .waiting) wire
 
 vector-message-requires : tie.Need-vector-message-requires
 vector-message-requires c κs = search needs
@@ -9,23 +21,31 @@ vector-message-requires c κs = search needs
 message-size-requires : tie.Need-message-size-requires
 message-size-requires c κs = search needs
 
-refused-requires : tie.Need-refused-requires
-refused-requires c κs = search needs
-
 returns : tie.Need-returns
-returns c = λ p. send-short _ _ p _ _ _ _ _ _ _ _ ((c .before .before .before .vector-message .ensures) _) (c .before .before .message-size .ensures) _ (c .before .if1 .taken) (c .refused .ensures)
+returns c =
+    let at-message-size = c .before in
+    let at-vector-message = at-message-size .before in
+    let start = at-vector-message .before .before .before in
+    λ p z e l y.
+    send-short (card-of start z e l y) _ p _ _ _ _ _ _ _ _ (at-vector-message .vector-message .ensures _) (at-message-size .message-size .ensures) _
+    (c .if1 .taken) refl
 
 put-vector-message-requires : tie.Need-put-vector-message-requires
 put-vector-message-requires c κs = search needs
-
-accepted-requires : tie.Need-accepted-requires
-accepted-requires c κs = search needs
 
 same-length : tie.Need-same-length
 same-length c = search needs
 
 returns-2 : tie.Need-returns-2
-returns-2 c = λ p. send-done _ _ p _ _ _ _ _ _ _ _ ((c .before .before .before .before .before .before .before .vector-message .ensures) _) (c .before .before .before .before .before .before .message-size .ensures) _ _ _ (c .before .before .before .before .before .if1 .left) (c .before .before .before .put-vector-message .ensures) (c .accepted .ensures)
+returns-2 c =
+    let at-put = c .before .before in
+    let at-if1 = at-put .before .before in
+    let at-message-size = at-if1 .before in
+    let at-vector-message = at-message-size .before in
+    let start = at-vector-message .before .before .before in
+    λ p z e l y.
+    send-done (card-of start z e l y) _ p _ _ _ _ _ _ _ _ (at-vector-message .vector-message .ensures _) (at-message-size .message-size .ensures) _ _ _
+    (at-if1 .if1 .left) (at-put .put-vector-message .ensures) refl
 
 pub send-spec : {M : Type 1} → statement M
 send-spec =
@@ -33,9 +53,7 @@ send-spec =
     (tie.spec
     vector-message-requires
     message-size-requires
-    refused-requires
     returns
     put-vector-message-requires
-    accepted-requires
     same-length
     returns-2)

@@ -1,5 +1,6 @@
 -- `read_list` meets its contract. The loop's invariant: the rest of the walk, applied to what was found so far, gives the whole listing. Assumes nothing.
 use mathlib.Core.Path.{_≡_, ap, _∙_}
+use mathlib.Core.List.{List}
 use Prim.Native.Nat.{ℕ, _-_, _≤_}
 use native.Mathlib.Omega.{arith}
 use denote.Ref.{now}
@@ -32,32 +33,44 @@ loop-holds c =
 place-requires : tie.Need-place-requires Inv-loop μ-loop
 place-requires c κs = search needs
 
+-- a turn: the pointer leads to a place
+module _ (c : tie.After-place Inv-loop μ-loop) where
+  abbrev at-loop : tie.At-loop Inv-loop μ-loop
+  at-loop = c .before
+
+  abbrev config : List ℕ
+  config = let start = at-loop .before .before in now (start .args .c)
+
 returns : tie.Need-returns Inv-loop μ-loop
 returns c =
-    let v = c .before .before .loop in
-    turn-ends (now (c .before .before .before .before .args .c)) (v .msi) (v .msix) (v .n) (v .p)
-    (c .before .place .result) _ (c .before .place .ensures .0)
+    let at-place = c .before in
+    let v = at-loop at-place .loop in
+    turn-ends (config at-place) (v .msi) (v .msix) (v .n) (v .p) (at-place .place .result) _ (at-place .place .ensures .0)
     (v .inv .3) (c .if1 .taken)
 
 broken-list-requires : tie.Need-broken-list-requires Inv-loop μ-loop
 broken-list-requires c κs = search needs
 
 returns-2 : tie.Need-returns-2 Inv-loop μ-loop
-returns-2 c = c .broken-list .ensures
-    ∙ let v = c .before .before .before .before .loop in
-    turn-low (now (c .before .before .before .before .before .before .args .c)) (v .msi) (v .msix) (v .n) (v .p)
-    (c .before .before .before .place .result) _ (c .before .before .before .place .ensures .0)
-    (v .inv .3) (c .before .before .if1 .left) (c .before .if2 .taken)
+returns-2 c =
+    let at-if1 = c .before .before in
+    let at-place = at-if1 .before in
+    let v = at-loop at-place .loop in
+    c .broken-list .ensures
+    ∙ turn-low (config at-place) (v .msi) (v .msix) (v .n) (v .p) (at-place .place .result) _ (at-place .place .ensures .0)
+    (v .inv .3) (at-if1 .if1 .left) (c .before .if2 .taken)
 
 broken-list-requires-2 : tie.Need-broken-list-requires-2 Inv-loop μ-loop
 broken-list-requires-2 c κs = search needs
 
 returns-3 : tie.Need-returns-3 Inv-loop μ-loop
-returns-3 c = c .broken-list2 .ensures
-    ∙ let v = c .before .before .before .before .before .loop in
-    turn-full (now (c .before .before .before .before .before .before .before .args .c)) (v .msi) (v .msix) (v .n) (v .p)
-    (c .before .before .before .before .place .result) _ (c .before .before .before .before .place .ensures .0)
-    (v .inv .3) (c .before .before .before .if1 .left) (c .before .if3 .taken)
+returns-3 c =
+    let at-if1 = c .before .before .before in
+    let at-place = at-if1 .before in
+    let v = at-loop at-place .loop in
+    c .broken-list2 .ensures
+    ∙ turn-full (config at-place) (v .msi) (v .msix) (v .n) (v .p) (at-place .place .result) _ (at-place .place .ensures .0)
+    (v .inv .3) (at-if1 .if1 .left) (c .before .if3 .taken)
 
 element-copy-out-id : tie.Need-element-copy-out-id Inv-loop μ-loop
 element-copy-out-id c = search needs
@@ -81,16 +94,19 @@ loop-less : tie.Need-loop-less Inv-loop μ-loop
 loop-less c = search needs
 
 loop-again : tie.Need-loop-again Inv-loop μ-loop
-loop-again c = (
-  search needs,
-  search needs,
-  search needs,
-  rw (c .before .with2 .ensures .0, c .before .before .with .ensures .0)
-      (let v = c .before .before .before .before .before .before .before .before .loop in
-      turn-more (now (c .before .before .before .before .before .before .before .before .before .before .args .c)) (v .msi) (v .msix) (v .n) (v .p)
-      (c .before .before .before .before .before .before .before .place .result) _ (c .before .before .before .before .before .before .before .place .ensures .0)
-      (v .inv .3) (c .before .before .before .before .before .before .if1 .left) (c .before .before .before .before .before .if2 .left) (search needs)),
-)
+loop-again c =
+    let at-with = c .before .before in
+    let at-if2 = at-with .before .before .before in
+    let at-if1 = at-if2 .before in
+    let at-place = at-if1 .before in
+    let v = at-loop at-place .loop in (
+      search needs,
+      search needs,
+      search needs,
+      rw (c .before .with2 .ensures .0, at-with .with .ensures .0)
+          (turn-more (config at-place) (v .msi) (v .msix) (v .n) (v .p) (at-place .place .result) _ (at-place .place .ensures .0)
+          (v .inv .3) (at-if1 .if1 .left) (at-if2 .if2 .left) (search needs)),
+    )
 
 pub read-list-spec : {M : Type 1} → statement M
 read-list-spec =

@@ -25,8 +25,10 @@ wide-requires-2 c κs = search needs
 
 returns : tie.Need-returns
 returns c =
-    let a = c .before .before .before .before .before .args in
-    msi-read (now (a .c)) (a .a) (c .before .before .wide .result) (c .wide2 .result) (c .before .before .wide .ensures .0) (c .wide2 .ensures .0)
+    let at-wide = c .before .before in
+    let start = at-wide .before .before .before in
+    let a = start .args in
+    msi-read (now (a .c)) (a .a) (at-wide .wide .result) (c .wide2 .result) (at-wide .wide .ensures .0) (c .wide2 .ensures .0)
 
 pub msi-at-spec : {M : Type 1} → statement M
 msi-at-spec =

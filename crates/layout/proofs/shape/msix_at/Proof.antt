@@ -46,10 +46,13 @@ add-t13 c = search needs
 
 returns : tie.Need-returns
 returns c =
-    let a = c .before .before .before .before .before .before .before .args in
-    msix-read (now (a .c)) (a .a) (c .before .before .before .before .wide .result) (c .before .before .wide2 .result)
+    let at-wide2 = c .before .before in
+    let at-wide = at-wide2 .before .before in
+    let start = at-wide .before .before .before in
+    let a = start .args in
+    msix-read (now (a .c)) (a .a) (at-wide .wide .result) (at-wide2 .wide2 .result)
     (c .before .region-at .result) (c .region-at2 .result)
-    (c .before .before .before .before .wide .ensures .0) (c .before .before .wide2 .ensures .0) (c .before .region-at .ensures) (c .region-at2 .ensures)
+    (at-wide .wide .ensures .0) (at-wide2 .wide2 .ensures .0) (c .before .region-at .ensures) (c .region-at2 .ensures)
 
 pub msix-at-spec : {M : Type 1} → statement M
 msix-at-spec =

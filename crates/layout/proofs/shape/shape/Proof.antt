@@ -6,22 +6,25 @@ use Rattle.layout.proofs.shape.shape.Tie as tie
 
 msi-found-requires : tie.Need-msi-found-requires
 msi-found-requires c κs =
-    let s = c .before .before .before in
-    (s .pre .0, found-places (now (s .args .c)) (λ i. c .before .before .shared-slice-known .given i .fits) (s .args .found) (s .pre .1) .0)
+    let at-shared-slice-known = c .before .before in
+    let start = at-shared-slice-known .before in
+    (start .pre .0, found-places (now (start .args .c)) (λ i. at-shared-slice-known .shared-slice-known .given i .fits) (start .args .found) (start .pre .1) .0)
 
 msix-found-requires : tie.Need-msix-found-requires
 msix-found-requires c κs =
-    let s = c .before .before .before .before in
-    (s .pre .0, found-places (now (s .args .c)) (λ i. c .before .before .before .shared-slice-known .given i .fits) (s .args .found) (s .pre .1) .1)
+    let at-shared-slice-known = c .before .before .before in
+    let start = at-shared-slice-known .before in
+    (start .pre .0, found-places (now (start .args .c)) (λ i. at-shared-slice-known .shared-slice-known .given i .fits) (start .args .found) (start .pre .1) .1)
 
 returns : tie.Need-returns
 returns c =
-    let s = c .before .before .before .before .before in
-    let f = now (s .args .c) in
+    let at-shared-slice-known = c .before .before .before .before in
+    let start = at-shared-slice-known .before in
+    let f = now (start .args .c) in
     let m = c .before .msi-found in
     let x = c .msix-found in
-    let e = shape-read f (s .args .found) (m .result) (x .result) (s .pre .1) (m .ensures) (x .ensures) in
-    (e, rw e (shape-bounded f (λ i. c .before .before .before .before .shared-slice-known .given i .fits)))
+    let e = shape-read f (start .args .found) (m .result) (x .result) (start .pre .1) (m .ensures) (x .ensures) in
+    (e, rw e (shape-bounded f (λ i. at-shared-slice-known .shared-slice-known .given i .fits)))
 
 pub shape-spec : {M : Type 1} → statement M
 shape-spec = tie.close (tie.spec msi-found-requires msix-found-requires returns)

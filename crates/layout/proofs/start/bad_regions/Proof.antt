@@ -20,12 +20,20 @@ pending-bytes-requires c κs = search needs
 outside-requires : tie.Need-outside-requires
 outside-requires c κs = search needs
 
+-- both lengths are known
+module _ (c : tie.After-pending-bytes) where
+  abbrev at-if1 : tie.Else1
+  at-if1 = let at-table-bytes = c .before in at-table-bytes .before .before .before
+
+  abbrev start : tie.Start
+  start = at-if1 .before .before
+
 returns-2 : tie.Need-returns-2
 returns-2 c =
-    let p = c .before .before in
-    let a = p .before .before .before .before .before .before .args in
-    region-1 (now (a .sizes)) (a .s) (p .before .table-bytes .result) (p .pending-bytes .result)
-    (p .before .table-bytes .ensures .0) (p .pending-bytes .ensures .0) (p .before .before .before .before .if1 .left)
+    let at-lengths = c .before .before in
+    let a = start at-lengths .args in
+    region-1 (now (a .sizes)) (a .s) (at-lengths .before .table-bytes .result) (at-lengths .pending-bytes .result)
+    (at-lengths .before .table-bytes .ensures .0) (at-lengths .pending-bytes .ensures .0) (at-if1 at-lengths .if1 .left)
     (sym (c .before .outside .ensures) ∙ c .if2 .taken)
 
 outside-requires-2 : tie.Need-outside-requires-2
@@ -33,34 +41,40 @@ outside-requires-2 c κs = search needs
 
 returns-3 : tie.Need-returns-3
 returns-3 c =
-    let p = c .before .before .before .before in
-    let a = p .before .before .before .before .before .before .args in
-    region-2 (now (a .sizes)) (a .s) (p .before .table-bytes .result) (p .pending-bytes .result)
-    (p .before .table-bytes .ensures .0) (p .pending-bytes .ensures .0) (p .before .before .before .before .if1 .left)
-    (sym (c .before .before .before .outside .ensures) ∙ c .before .before .if2 .left)
+    let at-if2 = c .before .before in
+    let at-lengths = at-if2 .before .before in
+    let a = start at-lengths .args in
+    region-2 (now (a .sizes)) (a .s) (at-lengths .before .table-bytes .result) (at-lengths .pending-bytes .result)
+    (at-lengths .before .table-bytes .ensures .0) (at-lengths .pending-bytes .ensures .0) (at-if1 at-lengths .if1 .left)
+    (sym (at-if2 .before .outside .ensures) ∙ at-if2 .if2 .left)
     (sym (c .before .outside2 .ensures) ∙ c .if3 .taken)
 
 returns-4 : tie.Need-returns-4
 returns-4 c =
-    let p = c .before .before .before .before .before .before .before in
-    let a = p .before .before .before .before .before .before .args in
-    region-3 (now (a .sizes)) (a .s) (p .before .table-bytes .result) (p .pending-bytes .result)
-    (p .before .table-bytes .ensures .0) (p .pending-bytes .ensures .0) (p .before .before .before .before .if1 .left)
-    (sym (c .before .before .before .before .before .before .outside .ensures) ∙ c .before .before .before .before .before .if2 .left)
-    (sym (c .before .before .before .before .outside2 .ensures) ∙ c .before .before .before .if3 .left)
+    let at-if3 = c .before .before .before in
+    let at-if2 = at-if3 .before .before in
+    let at-lengths = at-if2 .before .before in
+    let a = start at-lengths .args in
+    region-3 (now (a .sizes)) (a .s) (at-lengths .before .table-bytes .result) (at-lengths .pending-bytes .result)
+    (at-lengths .before .table-bytes .ensures .0) (at-lengths .pending-bytes .ensures .0) (at-if1 at-lengths .if1 .left)
+    (sym (at-if2 .before .outside .ensures) ∙ at-if2 .if2 .left)
+    (sym (at-if3 .before .outside2 .ensures) ∙ at-if3 .if3 .left)
     (c .if4 .taken)
 
 overlap-requires : tie.Need-overlap-requires
 overlap-requires c κs = search needs
 
 returns-5 : tie.Need-returns-5
-returns-5 c = c .overlap .ensures ∙
-    let p = c .before .before .before .before .before .before .before .before in
-    let a = p .before .before .before .before .before .before .args in
-    region-4 (now (a .sizes)) (a .s) (p .before .table-bytes .result) (p .pending-bytes .result)
-    (p .before .table-bytes .ensures .0) (p .pending-bytes .ensures .0) (p .before .before .before .before .if1 .left)
-    (sym (c .before .before .before .before .before .before .before .outside .ensures) ∙ c .before .before .before .before .before .before .if2 .left)
-    (sym (c .before .before .before .before .before .outside2 .ensures) ∙ c .before .before .before .before .if3 .left)
+returns-5 c =
+    let at-if3 = c .before .before .before .before in
+    let at-if2 = at-if3 .before .before in
+    let at-lengths = at-if2 .before .before in
+    let a = start at-lengths .args in
+    c .overlap .ensures
+    ∙ region-4 (now (a .sizes)) (a .s) (at-lengths .before .table-bytes .result) (at-lengths .pending-bytes .result)
+    (at-lengths .before .table-bytes .ensures .0) (at-lengths .pending-bytes .ensures .0) (at-if1 at-lengths .if1 .left)
+    (sym (at-if2 .before .outside .ensures) ∙ at-if2 .if2 .left)
+    (sym (at-if3 .before .outside2 .ensures) ∙ at-if3 .if3 .left)
     (c .before .if4 .left)
 
 pub bad-regions-spec : {M : Type 1} → statement M

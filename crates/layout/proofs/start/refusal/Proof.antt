@@ -23,6 +23,31 @@ asked c =
 abbrev rows : tie.Start → List (ℕ × Bool)
 rows c = rowsOf (asked c) (c .args .l) (c .args .s)
 
+-- the start, seen from behind each test
+abbrev start₁ : tie.Else1 → tie.Start
+start₁ c = c .before .before
+
+abbrev start₂ : tie.Else2 → tie.Start
+start₂ c = start₁ (c .before)
+
+abbrev start₃ : tie.Else3 → tie.Start
+start₃ c = start₂ (c .before .before)
+
+abbrev start₄ : tie.Else4 → tie.Start
+start₄ c = start₃ (c .before .before)
+
+abbrev start₅ : tie.Else5 → tie.Start
+start₅ c = start₄ (c .before .before)
+
+abbrev start₆ : tie.Else6 → tie.Start
+start₆ c = start₅ (c .before .before)
+
+abbrev start₇ : tie.Else7 → tie.Start
+start₇ c = start₆ (c .before)
+
+abbrev start₈ : tie.Else8 → tie.Start
+start₈ c = start₇ (c .before .before)
+
 -- the first k rows do not apply
 abbrev Left : tie.Start → ℕ → Type 0
 Left c k = startRefusal (asked c) ≡ firstOf (drop k (rows c))
@@ -30,28 +55,28 @@ Left c k = startRefusal (asked c) ≡ firstOf (drop k (rows c))
 past-0 : (c : tie.Start) → Left c 0
 past-0 c = rows-are (asked c) (c .args .l) (c .args .s) (c .pre .0) (c .pre .1)
 
-past-1 : (c : tie.Else1) → Left (c .before .before) 1
+past-1 : (c : tie.Else1) → Left (start₁ c) 1
 past-1 c = past-0 (c .before .before) ∙ row-passes 10 _ (sym (c .before .bad-header .ensures) ∙ c .if1 .left)
 
-past-2 : (c : tie.Else2) → Left (c .before .before .before) 2
+past-2 : (c : tie.Else2) → Left (start₂ c) 2
 past-2 c = past-1 (c .before) ∙ row-passes 11 _ (c .if2 .left)
 
-past-3 : (c : tie.Else3) → Left (c .before .before .before .before .before) 3
+past-3 : (c : tie.Else3) → Left (start₃ c) 3
 past-3 c = past-2 (c .before .before) ∙ row-passes 12 _ (sym (c .before .listed-twice .ensures) ∙ c .if3 .left)
 
-past-4 : (c : tie.Else4) → Left (c .before .before .before .before .before .before .before) 4
+past-4 : (c : tie.Else4) → Left (start₄ c) 4
 past-4 c = past-3 (c .before .before) ∙ row-passes 13 _ (sym (c .before .bad-structures .ensures) ∙ c .if4 .left)
 
-past-5 : (c : tie.Else5) → Left (c .before .before .before .before .before .before .before .before .before) 5
+past-5 : (c : tie.Else5) → Left (start₅ c) 5
 past-5 c = past-4 (c .before .before) ∙ row-passes 14 _ (sym (c .before .bad-regions .ensures) ∙ c .if5 .left)
 
-past-6 : (c : tie.Else6) → Left (c .before .before .before .before .before .before .before .before .before .before .before) 6
+past-6 : (c : tie.Else6) → Left (start₆ c) 6
 past-6 c = past-5 (c .before .before) ∙ row-passes 15 _ (sym (c .before .bad-events .ensures) ∙ c .if6 .left)
 
-past-7 : (c : tie.Else7) → Left (c .before .before .before .before .before .before .before .before .before .before .before .before) 7
+past-7 : (c : tie.Else7) → Left (start₇ c) 7
 past-7 c = past-6 (c .before) ∙ row-passes 16 _ (ap not (eq-eqb _ _ (c .if7 .left)))
 
-past-8 : (c : tie.Else8) → Left (c .before .before .before .before .before .before .before .before .before .before .before .before .before .before) 8
+past-8 : (c : tie.Else8) → Left (start₈ c) 8
 past-8 c = past-7 (c .before .before) ∙ row-passes 17 _ (sym (c .before .bad-buffers .ensures) ∙ c .if8 .left)
 
 bad-header-requires : tie.Need-bad-header-requires
@@ -71,8 +96,9 @@ returns-3 c = sym (past-2 (c .before .before) ∙ row-refuses 12 _ (sym (c .befo
 
 bad-structures-requires : tie.Need-bad-structures-requires
 bad-structures-requires c κs =
-    let s = c .before .before .before .before .before in
-    (sym (broken-listed (now (s .args .config)) (s .args .l) (s .pre .0)) ∙ c .before .before .if2 .left, s .pre .2)
+    let at-if2 = c .before .before in
+    let start = start₂ at-if2 in
+    (sym (broken-listed (now (start .args .config)) (start .args .l) (start .pre .0)) ∙ at-if2 .if2 .left, start .pre .2, start .pre .3)
 
 returns-4 : tie.Need-returns-4
 returns-4 c = sym (past-3 (c .before .before) ∙ row-refuses 13 _ (sym (c .before .bad-structures .ensures) ∙ c .if4 .taken))

@@ -13,14 +13,20 @@ returns c = rw (msi-absent (c .before .before .args .s) (c .if1 .taken))
 
 returns-2 : tie.Need-returns-2
 unfolding badMsi
-returns-2 c = rw (msi-there (c .before .before .before .before .args .s) (c .before .before .if1 .left), lt-ltb _ _ (c .if2 .taken))
+returns-2 c =
+    let at-if1 = c .before .before in
+    let start = at-if1 .before .before in
+    rw (msi-there (start .args .s) (at-if1 .if1 .left), lt-ltb _ _ (c .if2 .taken))
 
 misplaced-requires : tie.Need-misplaced-requires
 misplaced-requires c κs = search needs
 
 returns-3 : tie.Need-returns-3
 unfolding badMsi
-returns-3 c = c .misplaced .ensures ∙ rw (msi-there (c .before .before .before .before .before .args .s) (c .before .before .before .if1 .left), le-ltb _ _ (c .before .if2 .left))
+returns-3 c =
+    let at-if1 = c .before .before .before in
+    let start = at-if1 .before .before in
+    c .misplaced .ensures ∙ rw (msi-there (start .args .s) (at-if1 .if1 .left), le-ltb _ _ (c .before .if2 .left))
 
 pub bad-msi-spec : {M : Type 1} → statement M
 bad-msi-spec = tie.close (tie.spec returns returns-2 misplaced-requires returns-3)

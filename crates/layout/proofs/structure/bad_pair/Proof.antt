@@ -12,7 +12,10 @@ returns c = rw (msi-absent (c .before .before .args .s) (c .if1 .taken))
 
 returns-2 : tie.Need-returns-2
 unfolding badPair
-returns-2 c = rw (msi-there (c .before .before .before .before .args .s) (c .before .before .if1 .left), msix-absent (c .before .before .before .before .args .s) (c .if2 .taken))
+returns-2 c =
+    let at-if1 = c .before .before in
+    let start = at-if1 .before .before in
+    rw (msi-there (start .args .s) (at-if1 .if1 .left), msix-absent (start .args .s) (c .if2 .taken))
 
 overlap-requires : tie.Need-overlap-requires
 overlap-requires c κs = search needs
@@ -20,8 +23,10 @@ overlap-requires c κs = search needs
 returns-3 : tie.Need-returns-3
 unfolding badPair
 returns-3 c =
-    let s = c .before .before .before .before .before .args .s in
-    c .overlap .ensures ∙ rw (msi-there s (c .before .before .before .if1 .left), msix-there s (c .before .if2 .left))
+    let at-if1 = c .before .before .before in
+    let start = at-if1 .before .before in
+    let s = start .args .s in
+    c .overlap .ensures ∙ rw (msi-there s (at-if1 .if1 .left), msix-there s (c .before .if2 .left))
 
 pub bad-pair-spec : {M : Type 1} → statement M
 bad-pair-spec = tie.close (tie.spec returns returns-2 overlap-requires returns-3)

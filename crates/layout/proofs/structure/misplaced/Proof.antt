@@ -5,12 +5,13 @@ use native.Mathlib.Omega.{arith}
 use Rattle.layout.proofs.Walks.{from-first, test-ends, test-full, test-fails, test-more}
 use Rattle.layout.proofs.Checks.{runs-past, by-headers}
 use borrow.Author.Tests.{not-true, not-false}
-use mathlib.Core.Bool.{true, false}
+use mathlib.Core.Bool.{Bool, true, false, not}
 use mathlib.Core.List.{List}
 use mathlib.Core.Option.{Option}
 use Prim.Native.Nat.{ℕ, _-_, _≤_}
 use Rattle.words.specs.Lists.{all}
 use Rattle.model.specs.Capabilities.{pointer, walk, capabilities, broken, listed}
+use Rattle.model.specs.Start.{misplaced}
 use Rattle.layout.specs.Checks.{apart}
 use borrow.Author.Needs.{needs}
 use Rattle.layout.proofs.structure.misplaced.Statement.{statement}
@@ -45,12 +46,28 @@ loop-holds c =
 place-requires : tie.Need-place-requires Inv-loop μ-loop
 place-requires c κs = search needs
 
+-- the structure ends by byte FFh, so the headers of the list decide
+module _ (c : tie.At-loop Inv-loop μ-loop) where
+  abbrev at-if1 : tie.Else1 Inv-loop μ-loop
+  at-if1 = c .before .before
+
+  abbrev start : tie.Start Inv-loop μ-loop
+  start = at-if1 .before
+
+  abbrev places : List ℕ
+  places = listed (capabilities (now (start .args .c)))
+
+  decided : (b : Bool) → all (apart (start .args .a) (start .args .n)) places ≡ b → not b ≡ misplaced places (start .args .a) (start .args .n)
+  decided b e = by-headers places (start .args .a) (start .args .n) b (at-if1 .if1 .left) e
+
 returns-2 : tie.Need-returns-2 Inv-loop μ-loop
 returns-2 c =
-    let s = c .before .before .before .before .before .before .args in
-    let v = c .before .before .before .loop in
-    by-headers (listed (capabilities (now (s .c)))) (s .a) (s .n) true (c .before .before .before .before .before .if1 .left)
-    (test-ends (now (s .c)) (apart (s .a) (s .n)) (v .k) (v .p) (c .before .place .result) _ (c .before .place .ensures .0) (v .inv .1) (v .inv .2)
+    let at-place = c .before in
+    let at-loop = at-place .before .before in
+    let a = start at-loop .args in
+    let v = at-loop .loop in
+    decided at-loop true
+    (test-ends (now (a .c)) (apart (a .a) (a .n)) (v .k) (v .p) (at-place .place .result) _ (at-place .place .ensures .0) (v .inv .1) (v .inv .2)
     (c .if2 .taken))
 
 apart-requires : tie.Need-apart-requires Inv-loop μ-loop
@@ -58,11 +75,15 @@ apart-requires c κs = search needs
 
 returns-3 : tie.Need-returns-3 Inv-loop μ-loop
 returns-3 c =
-    let s = c .before .before .before .before .before .before .before .before .args in
-    let v = c .before .before .before .before .before .loop in
-    by-headers (listed (capabilities (now (s .c)))) (s .a) (s .n) false (c .before .before .before .before .before .before .before .if1 .left)
-    (test-fails (now (s .c)) (apart (s .a) (s .n)) (v .k) (v .p) (c .before .before .before .place .result) _ (c .before .before .before .place .ensures .0) (v .inv .1) (v .inv .2)
-    (c .before .before .before .before .loop-test .taken) (c .before .before .if2 .left)
+    let at-if2 = c .before .before in
+    let at-place = at-if2 .before in
+    let in-loop = at-place .before in
+    let at-loop = in-loop .before in
+    let a = start at-loop .args in
+    let v = at-loop .loop in
+    decided at-loop false
+    (test-fails (now (a .c)) (apart (a .a) (a .n)) (v .k) (v .p) (at-place .place .result) _ (at-place .place .ensures .0) (v .inv .1) (v .inv .2)
+    (in-loop .loop-test .taken) (at-if2 .if2 .left)
     (sym (c .before .apart .ensures) ∙ not-true _ (c .if3 .taken)))
 
 add-p : tie.Need-add-p Inv-loop μ-loop
@@ -79,20 +100,26 @@ loop-less c = search needs
 
 loop-again : tie.Need-loop-again Inv-loop μ-loop
 loop-again c =
-    let s = c .before .before .before .before .before .before .before .before .before .args in
-    let v = c .before .before .before .before .before .before .loop in
+    let at-apart = c .before .before in
+    let at-if2 = at-apart .before in
+    let at-place = at-if2 .before in
+    let in-loop = at-place .before in
+    let at-loop = in-loop .before in
+    let a = start at-loop .args in
+    let v = at-loop .loop in
     let q =
-    test-more (now (s .c)) (apart (s .a) (s .n)) (v .k) (v .p) (c .before .before .before .before .place .result) _ (c .before .before .before .before .place .ensures .0) (v .inv .1) (v .inv .2)
-    (c .before .before .before .before .before .loop-test .taken) (c .before .before .before .if2 .left)
-    (sym (c .before .before .apart .ensures) ∙ not-false _ (c .before .if3 .left)) in
+    test-more (now (a .c)) (apart (a .a) (a .n)) (v .k) (v .p) (at-place .place .result) _ (at-place .place .ensures .0) (v .inv .1) (v .inv .2)
+    (in-loop .loop-test .taken) (at-if2 .if2 .left)
+    (sym (at-apart .apart .ensures) ∙ not-false _ (c .before .if3 .left)) in
     (omega arith, q .0, q .1)
 
 returns-4 : tie.Need-returns-4 Inv-loop μ-loop
 returns-4 c =
-    let s = c .before .before .before .before .args in
-    let v = c .before .loop in
-    by-headers (listed (capabilities (now (s .c)))) (s .a) (s .n) true (c .before .before .before .if1 .left)
-    (test-full (now (s .c)) (apart (s .a) (s .n)) (v .k) (v .p) (pointer (v .p)) _ refl (v .inv .1) (v .inv .2) (omega arith))
+    let at-loop = c .before in
+    let a = start at-loop .args in
+    let v = at-loop .loop in
+    decided at-loop true
+    (test-full (now (a .c)) (apart (a .a) (a .n)) (v .k) (v .p) (pointer (v .p)) _ refl (v .inv .1) (v .inv .2) (omega arith))
 
 pub misplaced-spec : {M : Type 1} → statement M
 misplaced-spec =

@@ -1,11 +1,5 @@
-use denote.Ref.{now}
-use mathlib.Core.Path.{ap, _∙_}
-use native.Mathlib.Omega.{arith}
-use Rattle.model.specs.World.{worldOf}
-use Rattle.wire.specs.declared.Wiring.{Wiring}
-use Rattle.card.proofs.SoundFor.{is-sound-now, fits-now, pin-now}
-use Rattle.card.proofs.CallsFor.{refused-unsound}
-use Rattle.lifecycle.proofs.ResetFor.{reset-wire, reset-fits, reset-short, reset-done}
+-- The frame. Assumes nothing.
+use Rattle.card.proofs.CallsFor.{frame-refused, frame-core, frame-runs, frame-wires}
 use borrow.Author.Needs.{needs}
 use Rattle.lifecycle.proofs.reset.reset.Statement.{statement}
 use Rattle.lifecycle.proofs.reset.reset.Tie as tie
@@ -23,19 +17,16 @@ same-length-2 : tie.Need-same-length-2
 same-length-2 c = search needs
 
 returns : tie.Need-returns
-returns c = refused-unsound _ _ _ _ _ (c .before .before .before .check .ensures .1) _ (c .before .if1 .taken) (c .refused .ensures)
+returns c =
+    let at-if1 = c .before in
+    let at-check = at-if1 .before .before in
+    frame-refused _ _ _ _ _ (at-check .check .ensures) _ (at-if1 .if1 .taken) (c .refused .ensures)
 
-wiring-requires : tie.Need-wiring-requires
-wiring-requires c κs = fits-now (worldOf (c .before .before .before .before .before .before .before .before .before .before .before .before .args .card) (now (c .before .before .before .before .before .before .before .before .before .before .before .before .args .table)) (now (c .before .before .before .before .before .before .before .before .before .before .before .before .args .pending))) _ _ (c .before .before .before .before .before .before .check .ensures .1) (c .before .before .before .before .before .before .check .ensures .0) (c .before .before .before .before .if1 .left)
-
-set-wire-requires : tie.Need-set-wire-requires
-set-wire-requires c κs = search needs
-
-owed-size-requires : tie.Need-owed-size-requires
-owed-size-requires c κs = search needs
-
-refused-requires-2 : tie.Need-refused-requires-2
-refused-requires-2 c κs = search needs
+reset-core-requires : tie.Need-reset-core-requires
+reset-core-requires c κs =
+    let at-if1 = c .before .before .before .before .before in
+    let at-check = at-if1 .before .before in
+    (frame-runs (at-check .check .ensures) (at-if1 .if1 .left), frame-wires (at-check .check .ensures) (at-if1 .if1 .left))
 
 same-length-3 : tie.Need-same-length-3
 same-length-3 c = search needs
@@ -43,29 +34,15 @@ same-length-3 c = search needs
 same-length-4 : tie.Need-same-length-4
 same-length-4 c = search needs
 
-returns-2 : tie.Need-returns-2
-returns-2 c = reset-short _ _ _ _ (is-sound-now (worldOf (c .before .before .before .before .before .before .before .before .before .before .before .before .before .before .before .before .before .args .card) (now (c .before .before .before .before .before .before .before .before .before .before .before .before .before .before .before .before .before .args .table)) (now (c .before .before .before .before .before .before .before .before .before .before .before .before .before .before .before .before .before .args .pending))) _ (c .before .before .before .before .before .before .before .before .before .before .before .check .ensures .1) (c .before .before .before .before .before .before .before .before .before .if1 .left)) _ (reset-wire (c .before .before .before .before .before .before .before .before .before .before .before .before .before .before .before .before .before .args .card) (now (c .before .before .before .before .before .before .before .before .before .before .before .before .before .before .before .before .before .args .table)) (now (c .before .before .before .before .before .before .before .before .before .before .before .before .before .before .before .before .before .args .pending)) _ _ _ ((c .before .before .before .before .wiring .ensures) (now (c .before .before .before .before .before .before .before .before .before .before .before .before .before .before .before .before .before .args .table))) (c .before .before .before .set-wire .ensures) .1) _ _ (c .before .before .owed-size .ensures) (c .before .if2 .taken) (c .refused2 .ensures)
-
-send-requires : tie.Need-send-requires
-send-requires c κs = (let e = ap (λ (x : Wiring). x .pin) ((c .before .before .before .before .wiring .ensures) (now (c .before .before .before .before .before .before .before .before .before .before .before .before .before .before .before .before .before .args .table))) in omega (arith, e, pin-now (worldOf (c .before .before .before .before .before .before .before .before .before .before .before .before .before .before .before .before .before .args .card) (now (c .before .before .before .before .before .before .before .before .before .before .before .before .before .before .before .before .before .args .table)) (now (c .before .before .before .before .before .before .before .before .before .before .before .before .before .before .before .before .before .args .pending))) _ (c .before .before .before .before .before .before .before .before .before .before .before .check .ensures .1) (c .before .before .before .before .before .before .before .before .before .if1 .left)), omega (arith, (c .before .if2 .left), (c .before .before .owed-size .ensures)))
-
-started-requires : tie.Need-started-requires
-started-requires c κs = reset-fits (c .before .before .before .before .before .before .before .before .before .before .before .before .before .before .before .before .before .before .before .before .before .before .before .before .args .card) (now (c .before .before .before .before .before .before .before .before .before .before .before .before .before .before .before .before .before .before .before .before .before .before .before .before .args .table)) (now (c .before .before .before .before .before .before .before .before .before .before .before .before .before .before .before .before .before .before .before .before .before .before .before .before .args .pending)) _ (c .before .before .before .before .before .before .before .before .before .before .before .before .before .before .before .before .before .before .check .ensures .0) (is-sound-now (worldOf (c .before .before .before .before .before .before .before .before .before .before .before .before .before .before .before .before .before .before .before .before .before .before .before .before .args .card) (now (c .before .before .before .before .before .before .before .before .before .before .before .before .before .before .before .before .before .before .before .before .before .before .before .before .args .table)) (now (c .before .before .before .before .before .before .before .before .before .before .before .before .before .before .before .before .before .before .before .before .before .before .before .before .args .pending))) _ (c .before .before .before .before .before .before .before .before .before .before .before .before .before .before .before .before .before .before .check .ensures .1) (c .before .before .before .before .before .before .before .before .before .before .before .before .before .before .before .before .if1 .left))
-
-accepted-requires : tie.Need-accepted-requires
-accepted-requires c κs = search needs
-
 same-length-5 : tie.Need-same-length-5
 same-length-5 c = search needs
 
-same-length-6 : tie.Need-same-length-6
-same-length-6 c = search needs
-
-same-length-7 : tie.Need-same-length-7
-same-length-7 c = search needs
-
-returns-3 : tie.Need-returns-3
-returns-3 c = reset-done _ _ _ _ (is-sound-now (worldOf (c .before .before .before .before .before .before .before .before .before .before .before .before .before .before .before .before .before .before .before .before .before .before .before .before .before .before .before .before .before .before .args .card) (now (c .before .before .before .before .before .before .before .before .before .before .before .before .before .before .before .before .before .before .before .before .before .before .before .before .before .before .before .before .before .before .args .table)) (now (c .before .before .before .before .before .before .before .before .before .before .before .before .before .before .before .before .before .before .before .before .before .before .before .before .before .before .before .before .before .before .args .pending))) _ (c .before .before .before .before .before .before .before .before .before .before .before .before .before .before .before .before .before .before .before .before .before .before .before .before .check .ensures .1) (c .before .before .before .before .before .before .before .before .before .before .before .before .before .before .before .before .before .before .before .before .before .before .if1 .left)) _ (reset-wire (c .before .before .before .before .before .before .before .before .before .before .before .before .before .before .before .before .before .before .before .before .before .before .before .before .before .before .before .before .before .before .args .card) (now (c .before .before .before .before .before .before .before .before .before .before .before .before .before .before .before .before .before .before .before .before .before .before .before .before .before .before .before .before .before .before .args .table)) (now (c .before .before .before .before .before .before .before .before .before .before .before .before .before .before .before .before .before .before .before .before .before .before .before .before .before .before .before .before .before .before .args .pending)) _ _ _ ((c .before .before .before .before .before .before .before .before .before .before .before .before .before .before .before .before .before .wiring .ensures) (now (c .before .before .before .before .before .before .before .before .before .before .before .before .before .before .before .before .before .before .before .before .before .before .before .before .before .before .before .before .before .before .args .table))) (c .before .before .before .before .before .before .before .before .before .before .before .before .before .before .before .before .set-wire .ensures) .1) _ _ _ _ _ _ _ _ _ (c .before .before .before .before .before .before .before .before .before .before .before .before .before .before .before .owed-size .ensures) (c .before .before .before .before .before .before .before .before .before .before .before .before .before .before .if2 .left) (ap (λ (x : Wiring). x .pin) ((c .before .before .before .before .before .before .before .before .before .before .before .before .before .before .before .before .before .wiring .ensures) (now (c .before .before .before .before .before .before .before .before .before .before .before .before .before .before .before .before .before .before .before .before .before .before .before .before .before .before .before .before .before .before .args .table)))) (c .before .before .before .before .before .before .before .before .before .before .before .before .send .ensures) (reset-wire (c .before .before .before .before .before .before .before .before .before .before .before .before .before .before .before .before .before .before .before .before .before .before .before .before .before .before .before .before .before .before .args .card) (now (c .before .before .before .before .before .before .before .before .before .before .before .before .before .before .before .before .before .before .before .before .before .before .before .before .before .before .before .before .before .before .args .table)) (now (c .before .before .before .before .before .before .before .before .before .before .before .before .before .before .before .before .before .before .before .before .before .before .before .before .before .before .before .before .before .before .args .pending)) _ _ _ ((c .before .before .before .before .before .before .before .before .before .before .before .before .before .before .before .before .before .wiring .ensures) (now (c .before .before .before .before .before .before .before .before .before .before .before .before .before .before .before .before .before .before .before .before .before .before .before .before .before .before .before .before .before .before .args .table))) (c .before .before .before .before .before .before .before .before .before .before .before .before .before .before .before .before .set-wire .ensures) .0) (c .before .before .before .before .before .started .ensures) (c .accepted .ensures)
+returns-2 : tie.Need-returns-2
+returns-2 c =
+    let at-core = c .before .before .before .before .before .before in
+    let at-if1 = at-core .before .before .before .before .before .before in
+    let at-check = at-if1 .before .before in
+    frame-core _ _ _ _ _ (at-check .check .ensures) (at-if1 .if1 .left) _ (at-core .reset-core .ensures)
 
 pub reset-spec : {M : Type 1} → statement M
 reset-spec =
@@ -76,17 +53,8 @@ reset-spec =
     same-length
     same-length-2
     returns
-    wiring-requires
-    set-wire-requires
-    owed-size-requires
-    refused-requires-2
+    reset-core-requires
     same-length-3
     same-length-4
-    returns-2
-    send-requires
-    started-requires
-    accepted-requires
     same-length-5
-    same-length-6
-    same-length-7
-    returns-3)
+    returns-2)

@@ -1,3 +1,4 @@
+-- Refused with the number of the check, or started. Assumes nothing.
 use Rattle.lifecycle.proofs.StartFor.{start-fits, start-refused, start-accepted}
 use borrow.Author.Needs.{needs}
 use Rattle.lifecycle.proofs.start.start.Statement.{statement}
@@ -13,10 +14,17 @@ refused-requires : tie.Need-refused-requires
 refused-requires c κs = search needs
 
 returns : tie.Need-returns
-returns c = start-refused _ _ _ _ _ _ (c .before .before .before .before .check-start .ensures .0) (c .before .before .if1 .taken) (c .before .zero-card .ensures) (c .refused .ensures)
+returns c =
+    let at-zero-card = c .before in
+    let at-if1 = at-zero-card .before in
+    let at-check-start = at-if1 .before .before in
+    start-refused _ _ _ _ _ _ (at-check-start .check-start .ensures .0) (at-if1 .if1 .taken) (at-zero-card .zero-card .ensures) (c .refused .ensures)
 
 started-requires : tie.Need-started-requires
-started-requires c κs = ((c .before .before .before .before .before .check-start .ensures .1), start-fits _ _ _ (c .before .before .before .before .before .check-start .ensures .0) (c .before .before .before .if1 .left) (c .before .before .before .before .before .check-start .ensures .1))
+started-requires c κs =
+    let at-if1 = c .before .before .before .before in
+    let told = at-if1 .before .before .check-start .ensures in
+    (told .1, start-fits _ _ _ (told .0) (at-if1 .if1 .left) (told .1), told .3)
 
 accepted-requires : tie.Need-accepted-requires
 accepted-requires c κs = search needs
@@ -28,7 +36,11 @@ same-length-2 : tie.Need-same-length-2
 same-length-2 c = search needs
 
 returns-2 : tie.Need-returns-2
-returns-2 c = start-accepted _ _ _ _ _ _ _ (c .before .before .before .before .before .before .before .before .before .before .before .check-start .ensures .0) (c .before .before .before .before .before .before .before .before .before .if1 .left) (c .before .before .before .before .before .started .ensures) (c .accepted .ensures)
+returns-2 c =
+    let at-started = c .before .before .before .before .before in
+    let at-if1 = at-started .before .before .before .before .before in
+    let at-check-start = at-if1 .before .before in
+    start-accepted _ _ _ _ _ _ _ (at-check-start .check-start .ensures .0) (at-if1 .if1 .left) (at-started .started .ensures) (c .accepted .ensures)
 
 pub start-spec : {M : Type 1} → statement M
 start-spec =

@@ -1,15 +1,20 @@
+-- Configuration, table and pending array are each filled by their own function. Assumes nothing.
 use denote.Ref.{now}
-use Rattle.model.proofs.FitLaws.{table-room}
+use Rattle.model.proofs.Shapes.FitLaws.{table-room}
 use Rattle.lifecycle.proofs.StartFor.{started-is}
 use borrow.Author.Needs.{needs}
 use Rattle.lifecycle.proofs.started.started.Statement.{statement}
 use Rattle.lifecycle.proofs.started.started.Tie as tie
 
 started-config-requires : tie.Need-started-config-requires
-started-config-requires c κs = search needs
+started-config-requires c κs =
+    let start = c .before .before .before in
+    (start .pre .1 .shape .capable, start .pre .2)
 
 started-table-requires : tie.Need-started-table-requires
-started-table-requires c κs = table-room _ _ _ (c .before .before .before .before .before .pre .1)
+started-table-requires c κs =
+    let start = c .before .before .before .before .before in
+    table-room _ _ _ (start .pre .1)
 
 fill-requires : tie.Need-fill-requires
 fill-requires c κs = search needs
@@ -21,7 +26,14 @@ same-length-2 : tie.Need-same-length-2
 same-length-2 c = search needs
 
 returns : tie.Need-returns
-returns c = started-is _ _ _ _ _ (now (c .before .before .before .before .before .before .before .before .before .before .before .before .args .table)) (now (c .before .before .before .before .before .before .before .before .before .before .before .before .args .pending)) _ _ _ (c .before .before .before .before .before .before .before .before .before .before .before .before .pre .0) (c .before .before .before .before .before .before .before .before .before .before .before .before .pre .1) (c .before .before .before .before .before .before .before .before .started-config .ensures) (c .before .before .before .before .before .before .started-table .ensures) (c .before .before .fill .ensures)
+returns c =
+    let at-fill = c .before .before in
+    let at-started-table = at-fill .before .before .before .before in
+    let at-started-config = at-started-table .before .before in
+    let start = at-started-config .before .before .before .before in
+    let a = start .args in
+    started-is _ _ _ _ _ (now (a .table)) (now (a .pending)) _ _ _ (start .pre .0) (start .pre .1) (at-started-config .started-config .ensures)
+    (at-started-table .started-table .ensures) (at-fill .fill .ensures)
 
 pub started-spec : {M : Type 1} → statement M
 started-spec =

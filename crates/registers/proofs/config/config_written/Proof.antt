@@ -13,17 +13,14 @@ use Rattle.registers.proofs.config.config_written.Statement.{statement}
 use Rattle.registers.proofs.config.config_written.Tie as tie
 
 abbrev Inv-loop : tie.InvT-loop
-Inv-loop s at n value f config₀ left₀ i₀ config left i =
+Inv-loop s f at n value config₀ left₀ i₀ config left i =
     (i ≤ n) × (length config ≡ 256) × (written (writable s) config (at + i) (bytesOf (n - i) left) ≡ written (writable s) config₀ at (bytesOf n value))
 
 abbrev μ-loop : tie.MeasureT-loop
-μ-loop s at n value f config₀ left₀ i₀ config left i = n - i
+μ-loop s f at n value config₀ left₀ i₀ config left i = n - i
 
 loop-holds : tie.Need-loop-holds Inv-loop μ-loop
 loop-holds c = (omega arith, search needs, rw (add-zero, sub-zero))
-
-form-requires : tie.Need-form-requires Inv-loop μ-loop
-form-requires c κs = search needs
 
 add-k : tie.Need-add-k Inv-loop μ-loop
 add-k c = search needs
@@ -51,8 +48,10 @@ loop-less c = search needs
 
 loop-again : tie.Need-loop-again Inv-loop μ-loop
 loop-again c =
-    let v = c .before .before .before .loop in
-    let a = c .before .before .before .before .before .args in
+    let at-loop = c .before .before .before in
+    let start = at-loop .before in
+    let v = at-loop .loop in
+    let a = start .args in
     let e = ap (λ (m : ℕ). merge m (byte (v .config) (a .at + v .i)) (v .left % 256)) (c .before .writable .ensures) in (
       omega arith,
       simp length-set (v .inv .1),
@@ -62,7 +61,7 @@ loop-again c =
 returns : tie.Need-returns Inv-loop μ-loop
 returns c =
     let v = c .before .loop in
-    let a = c .before .before .before .args in
+    let a = c .before .before .args in
     write-end (writable (a .s)) (a .at) (v .i) (a .n) (v .left) (v .config) _ (v .inv .2) (omega arith)
 
 pub config-written-spec : {M : Type 1} → statement M
@@ -71,7 +70,6 @@ config-written-spec =
     (tie.spec
     Inv-loop
     μ-loop
-    form-requires
     loop-holds
     add-k
     writable-requires

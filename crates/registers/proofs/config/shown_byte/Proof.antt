@@ -1,6 +1,6 @@
 -- One law for each way out. Assumes nothing.
 use mathlib.Core.Path.{sym, _∙_}
-use Prim.Native.Nat.{_+_}
+use Prim.Native.Nat.{ℕ, _+_, _≤_, _<_}
 use native.Mathlib.Omega.{arith}
 use borrow.Author.Tests.{not-true, not-false}
 use Rattle.words.proofs.ListLaws.{within-true}
@@ -9,8 +9,30 @@ use borrow.Author.Needs.{needs}
 use Rattle.registers.proofs.config.shown_byte.Statement.{statement}
 use Rattle.registers.proofs.config.shown_byte.Tie as tie
 
+-- where MSI is there and has masks
+module _ (c : tie.Else3) where
+  abbrev at-if2 : tie.Else2
+  at-if2 = c .before .before
+
+  abbrev at-if1 : tie.Else1
+  at-if1 = at-if2 .before .before
+
+  abbrev start : tie.Start
+  start = at-if1 .before
+
+-- byte i is one of the Pending register's
+module _ (c : tie.Then4) where
+  abbrev at-if3 : tie.Else3
+  at-if3 = let at-within = c .before in at-within .before .before .before
+
+  abbrev register : ℕ
+  register = start at-if3 .args .s .msi .at + start at-if3 .args .f .pending
+
+  in-register : (register ≤ start at-if3 .args .i) × (start at-if3 .args .i < register + 4)
+  in-register = within-true register 4 (start at-if3 .args .i) (sym (c .before .within .ensures) ∙ c .if4 .taken)
+
 status-requires : tie.Need-status-requires
-status-requires c κs = c .before .pre .1 (c .if1 .taken)
+status-requires c κs = c .before .pre .2 (c .if1 .taken)
 
 returns : tie.Need-returns
 returns c =
@@ -24,42 +46,40 @@ returns-2 c =
 
 returns-3 : tie.Need-returns-3
 returns-3 c =
-    let a = c .before .before .before .before .before .args in
-    shown-absent (a .s) (a .line) (a .waiting) (a .i) (a .b) (c .before .before .before .before .if1 .left) (c .if3 .taken)
-
-form-requires : tie.Need-form-requires
-form-requires c κs = search needs
+    let past-1 = c .before .before .before .before in
+    let a = past-1 .before .args in
+    shown-absent (a .s) (a .line) (a .waiting) (a .i) (a .b) (past-1 .if1 .left) (c .if3 .taken)
 
 add-at : tie.Need-add-at
 add-at c =
-    let g = c .before .before .form in
-    omega (arith, c .before .before .before .before .before .before .before .before .pre .0, pending-fits (c .before .before .before .before .before .before .before .before .args .s) (g .result) (g .ensures) (not-false _ (c .before .before .before .before .before .if2 .left)))
+    let at-if3 = c .before .before in
+    let s = start at-if3 in
+    omega (arith, s .pre .0, pending-fits (s .args .s) (s .args .f) (s .pre .1) (not-false _ (at-if2 at-if3 .if2 .left)))
 
 within-requires : tie.Need-within-requires
 within-requires c κs = search needs
 
 sub-byte-of : tie.Need-sub-byte-of
-sub-byte-of c =
-    let a = c .before .before .before .before .before .before .before .before .before .before .args in
-    within-true (a .s .msi .at + c .before .before .before .before .form .result .pending) 4 (a .i) (sym (c .before .within .ensures) ∙ c .if4 .taken) .0
+sub-byte-of c = in-register c .0
 
 byte-of-requires : tie.Need-byte-of-requires
-byte-of-requires c κs =
-    let a = c .before .before .before .before .before .before .before .before .before .before .args in
-    let w = within-true (a .s .msi .at + c .before .before .before .before .form .result .pending) 4 (a .i) (sym (c .before .within .ensures) ∙ c .if4 .taken) in
-    omega (arith, w .0, w .1)
+byte-of-requires c κs = omega (arith, in-register c .0, in-register c .1)
 
 returns-4 : tie.Need-returns-4
 returns-4 c =
-    let a = c .before .before .before .before .before .before .before .before .before .before .before .args in
-    let g = c .before .before .before .before .before .form in
-    c .byte-of .ensures ∙ shown-pending (a .s) (a .line) (a .waiting) (a .i) (a .b) (c .before .before .before .before .before .before .before .before .before .before .if1 .left) (g .result) (g .ensures) (not-false _ (c .before .before .before .before .before .before .before .before .if2 .left)) (c .before .before .before .before .before .before .if3 .left) (sym (c .before .before .within .ensures) ∙ c .before .if4 .taken)
+    let at-within = c .before .before in
+    let at-if3 = at-within .before .before .before in
+    let a = start at-if3 .args in
+    c .byte-of .ensures
+    ∙ shown-pending (a .s) (a .line) (a .waiting) (a .i) (a .b) (at-if1 at-if3 .if1 .left) (a .f) (start at-if3 .pre .1)
+    (not-false _ (at-if2 at-if3 .if2 .left)) (at-if3 .if3 .left) (sym (at-within .within .ensures) ∙ c .before .if4 .taken)
 
 returns-5 : tie.Need-returns-5
 returns-5 c =
-    let a = c .before .before .before .before .before .before .before .before .before .before .args in
-    let g = c .before .before .before .before .form in
-    shown-other (a .s) (a .line) (a .waiting) (a .i) (a .b) (c .before .before .before .before .before .before .before .before .before .if1 .left) (g .result) (g .ensures) (not-false _ (c .before .before .before .before .before .before .before .if2 .left)) (c .before .before .before .before .before .if3 .left) (sym (c .before .within .ensures) ∙ c .if4 .left)
+    let at-if3 = c .before .before .before .before in
+    let a = start at-if3 .args in
+    shown-other (a .s) (a .line) (a .waiting) (a .i) (a .b) (at-if1 at-if3 .if1 .left) (a .f) (start at-if3 .pre .1)
+    (not-false _ (at-if2 at-if3 .if2 .left)) (at-if3 .if3 .left) (sym (c .before .within .ensures) ∙ c .if4 .left)
 
 pub shown-byte-spec : {M : Type 1} → statement M
 shown-byte-spec =
@@ -69,7 +89,6 @@ shown-byte-spec =
     returns
     returns-2
     returns-3
-    form-requires
     add-at
     within-requires
     sub-byte-of

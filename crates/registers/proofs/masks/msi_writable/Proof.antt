@@ -1,5 +1,7 @@
 -- One law for each way out. Assumes nothing.
-use mathlib.Core.Path.{sym, _∙_}
+use mathlib.Core.Path.{_≡_, sym, _∙_}
+use mathlib.Core.Bool.{true}
+use Prim.Native.Nat.{_+_, _≤_, _<_}
 use native.Mathlib.Omega.{arith}
 use borrow.Author.Tests.{eq-eqb, ne-eqb}
 use Rattle.words.proofs.ListLaws.{within-true}
@@ -7,6 +9,17 @@ use Rattle.registers.proofs.MaskLaws.{control-writable, address-writabl
 use borrow.Author.Needs.{needs}
 use Rattle.registers.proofs.masks.msi_writable.Statement.{statement}
 use Rattle.registers.proofs.masks.msi_writable.Tie as tie
+
+-- behind address and data, past the test for the Mask register
+module _ (c : tie.After-within) where
+  abbrev at-if3 : tie.Else3
+  at-if3 = c .before .before .before
+
+  abbrev start : tie.Start
+  start = at-if3 .before .before
+
+  in-mask : c .within .result ≡ true → let a = start .args in (a .f .mask ≤ a .k) × (a .k < a .f .mask + 4)
+  in-mask w = let a = start .args in within-true (a .f .mask) 4 (a .k) (sym (c .within .ensures) ∙ w)
 
 returns : tie.Need-returns
 returns c =
@@ -28,33 +41,38 @@ sub-if4 c = search needs
 
 returns-4 : tie.Need-returns-4
 returns-4 c =
-    let a = c .before .before .before .before .args in
-    data-byte (a .s) (a .f) (c .before .before .before .before .pre .1) (a .k) (omega (arith, c .before .before .if3 .left)) (c .if4 .taken)
+    let past-3 = c .before .before in
+    let begin = past-3 .before .before in
+    let a = begin .args in
+    data-byte (a .s) (a .f) (begin .pre .1) (a .k) (omega (arith, past-3 .if3 .left)) (c .if4 .taken)
 
 within-requires : tie.Need-within-requires
 within-requires c κs = search needs
 
 sub-mask-byte : tie.Need-sub-mask-byte
-sub-mask-byte c =
-    let a = c .before .before .before .before .before .before .before .args in
-    within-true (a .f .mask) 4 (a .k) (sym (c .before .before .within .ensures) ∙ c .before .if5 .taken) .0
+sub-mask-byte c = in-mask (c .before .before) (c .before .if5 .taken) .0
 
 mask-byte-requires : tie.Need-mask-byte-requires
 mask-byte-requires c κs =
-    let a = c .before .before .before .before .before .before .before .args in
-    let w = within-true (a .f .mask) 4 (a .k) (sym (c .before .before .within .ensures) ∙ c .before .if5 .taken) in
-    (c .before .before .before .before .before .before .before .pre .0, omega arith)
+    let at-within = c .before .before in
+    let m = in-mask at-within (c .before .if5 .taken) in
+    (start at-within .pre .0, omega arith)
 
 returns-5 : tie.Need-returns-5
 returns-5 c =
-    let a = c .before .before .before .before .before .before .before .before .args in
+    let at-if5 = c .before .before in
+    let at-within = at-if5 .before in
+    let a = start at-within .args in
     c .mask-byte .ensures
-    ∙ mask-register (a .s) (a .f) (c .before .before .before .before .before .before .before .before .pre .1) (a .k) (omega (arith, c .before .before .before .before .before .before .if3 .left)) (c .before .before .before .before .if4 .left) (sym (c .before .before .before .within .ensures) ∙ c .before .before .if5 .taken)
+    ∙ mask-register (a .s) (a .f) (start at-within .pre .1) (a .k) (omega (arith, at-if3 at-within .if3 .left)) (at-within .before .if4 .left)
+    (sym (at-within .within .ensures) ∙ at-if5 .if5 .taken)
 
 returns-6 : tie.Need-returns-6
 returns-6 c =
-    let a = c .before .before .before .before .before .before .args in
-    not-writable (a .s) (a .f) (c .before .before .before .before .before .before .pre .1) (a .k) (omega (arith, c .before .before .before .before .if3 .left)) (c .before .before .if4 .left) (sym (c .before .within .ensures) ∙ c .if5 .left)
+    let at-within = c .before in
+    let a = start at-within .args in
+    not-writable (a .s) (a .f) (start at-within .pre .1) (a .k) (omega (arith, at-if3 at-within .if3 .left)) (at-within .before .if4 .left)
+    (sym (at-within .within .ensures) ∙ c .if5 .left)
 
 pub msi-writable-spec : {M : Type 1} → statement M
 msi-writable-spec =

@@ -23,17 +23,23 @@ within-requires c κs = search needs
 
 sub-msi-zero : tie.Need-sub-msi-zero
 sub-msi-zero c =
-    let a = c .before .before .before .before .args in
-    within-true (a .s .msi .at) _ (a .i) (sym (c .before .before .within .ensures) ∙ c .before .if3 .taken) .0
+    let at-within = c .before .before in
+    let start = at-within .before .before in
+    let a = start .args in
+    within-true (a .s .msi .at) _ (a .i) (sym (at-within .within .ensures) ∙ c .before .if3 .taken) .0
 
 msi-zero-requires : tie.Need-msi-zero-requires
 msi-zero-requires c κs = search needs
 
 returns-3 : tie.Need-returns-3
 returns-3 c =
-    let a = c .before .before .before .before .before .args in
-    let size = ap (λ (f : Form). f .size) (c .before .before .before .before .before .pre .1) in
-    c .msi-zero .ensures ∙ sym (msi-byte (a .s) (a .i) (a .f .size) size (c .before .before .before .before .if1 .left) (sym (c .before .before .before .within .ensures) ∙ c .before .before .if3 .taken) .1)
+    let at-if3 = c .before .before in
+    let at-within = at-if3 .before in
+    let at-if1 = at-within .before in
+    let start = at-if1 .before in
+    let a = start .args in
+    let size = ap (λ (f : Form). f .size) (start .pre .1) in
+    c .msi-zero .ensures ∙ sym (msi-byte (a .s) (a .i) (a .f .size) size (at-if1 .if1 .left) (sym (at-within .within .ensures) ∙ at-if3 .if3 .taken) .1)
 
 returns-4 : tie.Need-returns-4
 returns-4 c =

@@ -5,6 +5,7 @@ use native.Mathlib.Omega.{arith}
 use lib.ListN.{length, length-set}
 use denote.Ref.{now}
 use Rattle.words.specs.Bytes.{byte}
+use Rattle.model.specs.Registers.{fixedByte}
 use Rattle.registers.specs.Parts.{partFixed}
 use Rattle.registers.proofs.PartLaws.{part-none, part-more, part-all}
 use borrow.Author.Needs.{needs}
@@ -21,7 +22,7 @@ abbrev μ-loop : tie.MeasureT-loop
 loop-holds : tie.Need-loop-holds Inv-loop μ-loop
 loop-holds c =
     let a = c .before .args in
-    (omega arith, omega arith, c .before .pre .0, part-none (a .s) (a .lo) (now (a .config)))
+    (omega arith, omega arith, c .before .pre .0, part-none (fixedByte (a .s)) (a .lo) (now (a .config)))
 
 slice-read-fixed-byte : tie.Need-slice-read-fixed-byte Inv-loop μ-loop
 slice-read-fixed-byte c = search needs
@@ -40,12 +41,14 @@ loop-less c = search needs
 
 loop-again : tie.Need-loop-again Inv-loop μ-loop
 loop-again c =
-    let a = c .before .before .before .before .before .args in
-    let v = c .before .before .before .loop in (
+    let at-loop = c .before .before .before in
+    let start = at-loop .before .before in
+    let a = start .args in
+    let v = at-loop .loop in (
       omega arith,
       omega arith,
       simp length-set (v .inv .2),
-      part-more (a .s) (a .lo) (now (a .config)) (v .config) (v .i) (c .fixed-byte .result) (omega arith) (omega arith) (v .inv .3) (c .fixed-byte .ensures),
+      part-more (fixedByte (a .s)) (a .lo) (now (a .config)) (v .config) (v .i) (c .fixed-byte .result) (omega arith) (omega arith) (v .inv .3) (c .fixed-byte .ensures),
     )
 
 same-length : tie.Need-same-length Inv-loop μ-loop
@@ -55,7 +58,7 @@ returns : tie.Need-returns Inv-loop μ-loop
 returns c =
     let a = c .before .before .before .args in
     let v = c .before .loop in
-    λ k. v .inv .3 k ∙ part-all (a .s) (a .lo) (now (a .config)) (a .hi) (v .i) (omega arith) (omega arith) k
+    λ k. v .inv .3 k ∙ part-all (fixedByte (a .s)) (a .lo) (now (a .config)) (a .hi) (v .i) (omega arith) (omega arith) k
 
 pub fix-part-spec : {M : Type 1} → statement M
 fix-part-spec =

@@ -14,10 +14,10 @@ use Rattle.registers.proofs.start.started_bytes.Statement.{statement}
 use Rattle.registers.proofs.start.started_bytes.Tie as tie
 
 abbrev Inv-loop : tie.InvT-loop
-Inv-loop c s config₀ i₀ config i = (i ≤ 256) × (length config ≡ 256) × (putAt i (drop i c) config ≡ c)
+Inv-loop c s f config₀ i₀ config i = (i ≤ 256) × (length config ≡ 256) × (putAt i (drop i c) config ≡ c)
 
 abbrev μ-loop : tie.MeasureT-loop
-μ-loop c s config₀ i₀ config i = 256 - i
+μ-loop c s f config₀ i₀ config i = 256 - i
 
 loop-holds : tie.Need-loop-holds Inv-loop μ-loop
 loop-holds c = (omega arith, refl, over-all (now (c .before .args .c)) _ (omega (arith, c .before .pre .0)))
@@ -36,25 +36,47 @@ loop-less c = search needs
 
 loop-again : tie.Need-loop-again Inv-loop μ-loop
 loop-again c =
-    let v = c .before .before .loop in
-    let o = now (c .before .before .before .before .args .c) in
-    let h : v .i < length o = omega (arith, c .before .before .before .before .pre .0) in
+    let at-loop = c .before .before in
+    let start = at-loop .before .before in
+    let v = at-loop .loop in
+    let o = now (start .args .c) in
+    let h : v .i < length o = omega (arith, start .pre .0) in
     (omega arith, simp length-set (v .inv .1), copy-next o (v .i) (v .config) _ (v .inv .2) h (omega arith))
 
-form-requires : tie.Need-form-requires Inv-loop μ-loop
-form-requires c κs = search needs
+-- the bytes are copied
+module _ (c : tie.After-loop Inv-loop μ-loop) where
+  abbrev at-loop : tie.At-loop Inv-loop μ-loop
+  at-loop = c .before
+
+  abbrev start : tie.Start Inv-loop μ-loop
+  start = at-loop .before .before
 
 slice-aggregate-fix-part : tie.Need-slice-aggregate-fix-part Inv-loop μ-loop
 slice-aggregate-fix-part c = search needs
 
 fix-part-requires : tie.Need-fix-part-requires Inv-loop μ-loop
-fix-part-requires c κs = (c .before .before .before .loop .inv .1, omega arith, c .before .before .before .before .before .pre .1, c .before .form .ensures)
+fix-part-requires c κs =
+    let copied = c .before in
+    (at-loop copied .loop .inv .1, omega arith, start copied .pre .1, start copied .pre .2)
 
 slice-aggregate-fix-part-2 : tie.Need-slice-aggregate-fix-part-2 Inv-loop μ-loop
 slice-aggregate-fix-part-2 c = search needs
 
 fix-part-requires-2 : tie.Need-fix-part-requires-2 Inv-loop μ-loop
-fix-part-requires-2 c κs = (search needs, omega arith, c .before .before .before .before .before .before .before .before .pre .1, c .before .before .before .before .form .ensures)
+fix-part-requires-2 c κs =
+    let at-fix-part = c .before .before in
+    let copied = at-fix-part .before .before in
+    (search needs, omega arith, start copied .pre .1, start copied .pre .2)
+
+slice-aggregate-fix-msi : tie.Need-slice-aggregate-fix-msi Inv-loop μ-loop
+slice-aggregate-fix-msi c = search needs
+
+fix-msi-requires : tie.Need-fix-msi-requires Inv-loop μ-loop
+fix-msi-requires c κs =
+    let at-fix-part2 = c .before .before in
+    let at-fix-part = at-fix-part2 .before .before .before in
+    let copied = at-fix-part .before .before in
+    (search needs, start copied .pre .1, start copied .pre .2)
 
 slice-aggregate-fix-part-3 : tie.Need-slice-aggregate-fix-part-3 Inv-loop μ-loop
 slice-aggregate-fix-part-3 c = search needs
@@ -62,32 +84,38 @@ slice-aggregate-fix-part-3 c = search needs
 part-end-requires : tie.Need-part-end-requires Inv-loop μ-loop
 part-end-requires c κs = search needs
 
-fix-part-requires-3 : tie.Need-fix-part-requires-3 Inv-loop μ-loop
-fix-part-requires-3 c κs = (search needs, omega (arith, c .part-end .ensures), c .before .before .before .before .before .before .before .before .before .before .before .before .pre .1, c .before .before .before .before .before .before .before .before .form .ensures)
-
-slice-aggregate-fix-part-4 : tie.Need-slice-aggregate-fix-part-4 Inv-loop μ-loop
-slice-aggregate-fix-part-4 c = search needs
-
 part-end-requires-2 : tie.Need-part-end-requires-2 Inv-loop μ-loop
 part-end-requires-2 c κs = search needs
 
-fix-part-requires-4 : tie.Need-fix-part-requires-4 Inv-loop μ-loop
-fix-part-requires-4 c κs = (search needs, omega (arith, c .part-end2 .ensures), c .before .before .before .before .before .before .before .before .before .before .before .before .before .before .before .before .pre .1, c .before .before .before .before .before .before .before .before .before .before .before .before .form .ensures)
+fix-part-requires-3 : tie.Need-fix-part-requires-3 Inv-loop μ-loop
+fix-part-requires-3 c κs =
+    let at-part-end = c .before in
+    let at-fix-msi = at-part-end .before .before .before in
+    let at-fix-part2 = at-fix-msi .before .before .before in
+    let at-fix-part = at-fix-part2 .before .before .before in
+    let copied = at-fix-part .before .before in
+    (search needs, omega (arith, c .part-end2 .ensures), start copied .pre .1, start copied .pre .2)
 
 returns : tie.Need-returns Inv-loop μ-loop
 returns c =
-    let d = c .before .before .before .before .before .before .before .before .before .before .before .before .before .before .before .before .before .before in
-    let v = c .before .before .before .before .before .before .before .before .before .before .before .before .before .before .before .before .loop in
-    let s = d .args .s in
-    let o = now (d .args .c) in
-    let h : length o ≤ v .i = omega (arith, d .pre .0, c .before .before .before .before .before .before .before .before .before .before .before .before .before .before .before .loop-test .left) in
-    let copied : v .config ≡ o = copy-end o (v .i) (v .config) _ (v .inv .2) h in
-    let size = ap (λ (f : Form). min (s .msi .at + f .size) 256) (c .before .before .before .before .before .before .before .before .before .before .before .before .before .before .form .ensures) in
-    four-parts s (v .config) _ _ (c .before .before .before .before .before .before .part-end .ensures ∙ size) (c .before .before .part-end2 .ensures) (v .inv .1) _ _ _ _
-    (c .before .before .before .before .before .before .before .before .before .before .before .before .fix-part .ensures)
-    (c .before .before .before .before .before .before .before .before .before .fix-part2 .ensures)
-    (c .before .before .before .before .before .fix-part3 .ensures) (c .before .fix-part4 .ensures) (search needs)
-    ∙ ap (startedConfig s) copied
+    let at-fix-part3 = c .before in
+    let at-part-end2 = at-fix-part3 .before in
+    let at-part-end = at-part-end2 .before in
+    let at-fix-msi = at-part-end .before .before .before in
+    let at-fix-part2 = at-fix-msi .before .before .before in
+    let at-fix-part = at-fix-part2 .before .before .before in
+    let copied = at-fix-part .before .before in
+    let v = at-loop copied .loop in
+    let s = start copied .args .s in
+    let o = now (start copied .args .c) in
+    let h : length o ≤ v .i = omega (arith, start copied .pre .0, copied .loop-test .left) in
+    let same : v .config ≡ o = copy-end o (v .i) (v .config) _ (v .inv .2) h in
+    let size = ap (λ (f : Form). min (s .msi .at + f .size) 256) (start copied .pre .2) in
+    four-parts s (v .config) _ _ _ size (at-part-end .part-end .ensures) (at-part-end2 .part-end2 .ensures) (v .inv .1) _ _ _ _
+    (at-fix-part .fix-part .ensures)
+    (at-fix-part2 .fix-part2 .ensures)
+    (at-fix-msi .fix-msi .ensures) (at-fix-part3 .fix-part3 .ensures) (search needs)
+    ∙ ap (startedConfig s) same
 
 pub started-bytes-spec : {M : Type 1} → statement M
 started-bytes-spec =
@@ -101,15 +129,14 @@ started-bytes-spec =
     add-i
     loop-less
     loop-again
-    form-requires
     slice-aggregate-fix-part
     fix-part-requires
     slice-aggregate-fix-part-2
     fix-part-requires-2
+    slice-aggregate-fix-msi
+    fix-msi-requires
     slice-aggregate-fix-part-3
     part-end-requires
-    fix-part-requires-3
-    slice-aggregate-fix-part-4
     part-end-requires-2
-    fix-part-requires-4
+    fix-part-requires-3
     returns)

@@ -22,13 +22,14 @@ fill-requires c κs = search needs
 
 loop-holds : tie.Need-loop-holds Inv-loop μ-loop
 loop-holds c =
-    let d = c .before .before in
-    let a = d .before .before .before .args in
+    let at-fill = c .before .before in
+    let start = at-fill .before .before .before in
+    let a = start .args in
     let o = now (a .table) in
-    let n : length (d .fill .last .0) ≡ 16 * a .n = ap length (d .fill .ensures) ∙ length-replicate (length o) 0 ∙ d .before .before .before .pre in (
+    let n : length (at-fill .fill .last .0) ≡ 16 * a .n = ap length (at-fill .fill .ensures) ∙ length-replicate (length o) 0 ∙ start .pre in (
       omega arith,
       n,
-      λ i h. ap (λ (l : List ℕ). byte l i) (d .fill .ensures) ∙ getD-replicate (length o) i 0 0 (omega (arith, d .before .before .before .pre)) ∙ started-none i,
+      λ i h. ap (λ (l : List ℕ). byte l i) (at-fill .fill .ensures) ∙ getD-replicate (length o) i 0 0 (omega (arith, start .pre)) ∙ started-none i,
     )
 
 mul-table : tie.Need-mul-table Inv-loop μ-loop
@@ -59,8 +60,9 @@ same-length c = search needs
 
 returns : tie.Need-returns Inv-loop μ-loop
 returns c =
+    let start = c .before .before .before .before .before .before .before in
     let v = c .before .loop in
-    let n = c .before .before .before .before .before .before .before .args .n in
+    let n = start .args .n in
     let e : v .k ≡ n = omega arith in
     started-all (v .table) n (v .inv .1) (rw e at (v .inv .2))
 

@@ -52,11 +52,13 @@ loop-less c = search needs
 
 loop-again : tie.Need-loop-again Inv-loop μ-loop
 loop-again c =
-    let v = c .before .before .before .loop in
-    let d = c .before .before .before .before in
-    let t = now (d .before .args .table) in (
+    let at-loop = c .before .before .before in
+    let at-shared-slice-known = at-loop .before in
+    let start = at-shared-slice-known .before in
+    let v = at-loop .loop in
+    let t = now (start .args .table) in (
       omega arith,
-      entry-clean t (λ i. d .shared-slice-known .given i .fits) (v .k) (v .low) (v .high) (c .before .word64 .result) (c .word642 .result)
+      entry-clean t (λ i. at-shared-slice-known .shared-slice-known .given i .fits) (v .k) (v .low) (v .high) (c .before .word64 .result) (c .word642 .result)
           (c .before .word64 .ensures) (c .word642 .ensures) (v .inv .1),
     )
 

@@ -49,9 +49,12 @@ loop-less c = search needs
 
 loop-again : tie.Need-loop-again Inv-loop μ-loop
 loop-again c =
-    let v = c .before .before .before .before .loop in
-    let a = c .before .before .before .before .before .before .args in
-    let e = ap (λ (m : ℕ). merge m (byte (v .table) (a .at + v .i)) (v .left % 256)) (c .before .before .entry-writable .ensures) in (
+    let at-entry-writable = c .before .before in
+    let at-loop = at-entry-writable .before .before in
+    let start = at-loop .before .before in
+    let v = at-loop .loop in
+    let a = start .args in
+    let e = ap (λ (m : ℕ). merge m (byte (v .table) (a .at + v .i)) (v .left % 256)) (at-entry-writable .entry-writable .ensures) in (
       omega arith,
       simp length-set (v .inv .1),
       write-next entryWritable (a .at) (v .i) (a .n) (v .left) (v .table) _ (v .inv .2) (c .merge .result) (omega arith) (c .merge .ensures ∙ e),

@@ -1,5 +1,5 @@
-use mathlib.Core.Path.{refl}
 -- Each turn clears the bit of the lowest vector that is left, where its entry is masked. Assumes nothing.
+use mathlib.Core.Path.{refl}
 use Prim.Native.Nat.{ℕ, _+_, _<_}
 use native.Mathlib.Omega.{arith}
 use denote.Ref.{now}
@@ -16,15 +16,22 @@ Inv-loop table base w left₀ r₀ left r = Masking table base w left r
 abbrev μ-loop : tie.MeasureT-loop
 μ-loop table base w left₀ r₀ left r = left
 
+-- a turn at the lowest vector v, whose entry is in the table
 module _ (c : tie.After-lowest Inv-loop μ-loop) where
+  abbrev at-loop : tie.At-loop Inv-loop μ-loop
+  at-loop = c .before .before
+
+  abbrev start : tie.Start Inv-loop μ-loop
+  start = at-loop .before .before
+
   abbrev v : ℕ
   v = c .lowest .result
 
-  t : Turn 64 (c .before .before .loop .left) v
-  t = turn 64 (c .before .before .loop .left) v (c .before .before .loop .inv .remaining .fits) (c .lowest .ensures)
+  t : Turn 64 (at-loop .loop .left) v
+  t = turn 64 (at-loop .loop .left) v (at-loop .loop .inv .remaining .fits) (c .lowest .ensures)
 
-  within : c .before .before .before .before .args .base + v < entries (now (c .before .before .before .before .args .table))
-  within = c .before .before .before .before .pre v (c .before .before .loop .inv .remaining .part v (t .set))
+  within : start .args .base + v < entries (now (start .args .table))
+  within = start .pre v (at-loop .loop .inv .remaining .part v (t .set))
 
 loop-holds : tie.Need-loop-holds Inv-loop μ-loop
 loop-holds c = masking-all _ _ _ (search needs)

@@ -1,5 +1,5 @@
-use mathlib.Core.List.{_++_}
 -- Each turn writes the message of the lowest vector that is left. Assumes nothing.
+use mathlib.Core.List.{_++_}
 use mathlib.Core.Path.{_≡_}
 use mathlib.Core.List.{List}
 use Prim.Native.Nat.{ℕ, _+_, _-_, _^_, _≤_, _<_}
@@ -11,7 +11,7 @@ use Rattle.words.proofs.Writers.{placed}
 use Rattle.words.proofs.LowestLaws.{lowest-trailing}
 use Rattle.words.proofs.OnesLaws.{no-set-bits}
 use Rattle.model.specs.Packets.{message}
-use Rattle.model.proofs.PacketLaws.{message-length}
+use Rattle.model.proofs.Vectors.PacketLaws.{message-length}
 use Rattle.release.specs.Owed.{msiPackets}
 use Rattle.words.proofs.SetBits.{Turn, turn}
 use Rattle.words.proofs.ListLaws.{join-first, join-none}
@@ -29,28 +29,36 @@ abbrev μ-loop : tie.MeasureT-loop
 
 -- a turn at its lowest vector v: v's message is the first of those that are left, and there is room for it
 module _ (c : tie.In-loop Inv-loop μ-loop) where
-  abbrev v : ℕ
-  v = trailingZeros 32 (c .before .loop .left)
+  abbrev at-loop : tie.At-loop Inv-loop μ-loop
+  at-loop = c .before
 
-  abbrev p : List ℕ
-  p = let a = c .before .before .before .args in message (a .requester) (a .upper) (a .address) (a .base + v)
+  abbrev start : tie.Start Inv-loop μ-loop
+  start = at-loop .before .before
+
+  abbrev left : ℕ
+  left = at-loop .loop .left
+
+  abbrev v : ℕ
+  v = trailingZeros 32 left
+
+  t : Turn 32 left v
+  t = turn 32 left v (at-loop .loop .inv .0) (lowest-trailing 32 left (omega arith) (at-loop .loop .inv .0))
+
+  -- the message of vector j, and those of the bits of w
+  abbrev packet : ℕ → List ℕ
+  packet j = let a = start .args in message (a .requester) (a .upper) (a .address) (a .base + j)
+
+  abbrev todo : ℕ → List ℕ
+  todo w = let a = start .args in msiPackets (a .requester) (a .upper) (a .address) (a .base) w
 
   abbrev rest : List ℕ
-  rest =
-      let a = c .before .before .before .args in
-      msiPackets (a .requester) (a .upper) (a .address) (a .base) (bitAnd (c .before .loop .left) (c .before .loop .left - 1))
+  rest = todo (bitAnd left (left - 1))
 
-  abbrev todo : List ℕ
-  todo = let a = c .before .before .before .args in msiPackets (a .requester) (a .upper) (a .address) (a .base) (c .before .loop .left)
+  first : todo left ≡ packet v ++ rest
+  first = join-first (λ j. packet j) v _ _ (t .rest)
 
-  t : Turn 32 (c .before .loop .left) v
-  t = turn 32 (c .before .loop .left) v (c .before .loop .inv .0) (lowest-trailing 32 (c .before .loop .left) (omega arith) (c .before .loop .inv .0))
-
-  first : todo ≡ p ++ rest
-  first = join-first (λ v. let a = c .before .before .before .args in message (a .requester) (a .upper) (a .address) (a .base + v)) v _ _ (t .rest)
-
-  fits : c .before .loop .at + length p ≤ length (c .before .loop .out)
-  fits = sending-fits _ _ _ todo _ p rest (c .before .before .before .pre .1) (c .before .loop .inv .1) first
+  fits : at-loop .loop .at + length (packet v) ≤ length (at-loop .loop .out)
+  fits = sending-fits _ _ _ (todo left) _ (packet v) rest (start .pre .1) (at-loop .loop .inv .1) first
 
 loop-holds : tie.Need-loop-holds Inv-loop μ-loop
 loop-holds c = (search needs, sending-all _ _)
@@ -68,28 +76,37 @@ add-put-message : tie.Need-add-put-message Inv-loop μ-loop
 add-put-message c = omega (arith, t (c .before) .within)
 
 put-message-requires : tie.Need-put-message-requires Inv-loop μ-loop
-put-message-requires c κs = let a = c .before .before .before .before .args in
+put-message-requires c κs =
+    let a = start (c .before) .args in
     simp (length-take, length-drop)
     (omega (arith, fits (c .before), message-length (a .requester) (a .upper) (a .address) (a .base + v (c .before))))
 
 add-at : tie.Need-add-at Inv-loop μ-loop
-add-at c = omega (arith, fits (c .before .before .before .before), c .before .before .put-message .ensures .count)
+add-at c =
+    let at-put-message = c .before .before in
+    let in-loop = at-put-message .before .before in
+    omega (arith, fits in-loop, at-put-message .put-message .ensures .count)
 
 sub-left : tie.Need-sub-left Inv-loop μ-loop
 sub-left c = search needs
 
 loop-less : tie.Need-loop-less Inv-loop μ-loop
-loop-less c = t (c .before .before .before .before) .less
+loop-less c =
+    let in-loop = c .before .before .before .before in
+    t in-loop .less
 
 loop-again : tie.Need-loop-again Inv-loop μ-loop
-loop-again c = let d = c .before .before .before .before in
-    let l = d .before .loop in
-    let call = c .before .before .put-message in (
-      omega (arith, t d .less),
-      sending-next _ _ (l .out) (todo d) (l .at) (p d) (rest d) _ (call .result) (d .before .before .before .pre .1) (l .inv .1) (first d)
+loop-again c =
+    let at-put-message = c .before .before in
+    let in-loop = at-put-message .before .before in
+    let l = at-loop in-loop .loop in
+    let p = packet in-loop (v in-loop) in
+    let call = at-put-message .put-message in (
+      omega (arith, t in-loop .less),
+      sending-next _ _ (l .out) (todo in-loop (l .left)) (l .at) p (rest in-loop) _ (call .result) (start in-loop .pre .1) (l .inv .1) (first in-loop)
           (call .ensures .count)
           (c .before .out .given .1)
-          (placed (l .out) (l .at) (p d) (call .last .0) (call .ensures .bytes)),
+          (placed (l .out) (l .at) p (call .last .0) (call .ensures .bytes)),
     )
 
 same-length : tie.Need-same-length Inv-loop μ-loop

@@ -6,7 +6,7 @@ use native.Mathlib.Omega.{arith}
 use lib.Count.{ones-le}
 use Rattle.words.proofs.OnesLaws.{length-set-bits}
 use Rattle.model.specs.Packets.{message, messageSize}
-use Rattle.model.proofs.PacketLaws.{message-length, size-le}
+use Rattle.model.proofs.Vectors.PacketLaws.{message-length, size-le}
 use Rattle.release.specs.Owed.{setBits}
 use Rattle.words.proofs.ListLaws.{join-each}
 use borrow.Author.Needs.{needs}

@@ -17,18 +17,24 @@ Inv-loop out₀ table pending₀ requester sent₀ at₀ out pending sent at = R
 abbrev μ-loop : tie.MeasureT-loop
 μ-loop out₀ table pending₀ requester sent₀ at₀ out pending sent at = length pending - at
 
+-- a turn: the packets of its word, for which there is room
 module _ (c : tie.In-loop Inv-loop μ-loop) where
+  abbrev at-loop : tie.At-loop Inv-loop μ-loop
+  at-loop = c .before
+
   abbrev start : tie.Start Inv-loop μ-loop
-  start = c .before .before .before .before .before
+  start = let at-slices = at-loop .before .before in at-slices .before .before
 
   abbrev p : List ℕ
-  p = entryPackets (start .args .requester) (now (start .args .table)) (owedWord (now (start .args .table)) (c .before .loop .pending) (c .before .loop .at))
+  p =
+      let table = now (start .args .table) in
+      entryPackets (start .args .requester) table (owedWord table (at-loop .loop .pending) (at-loop .loop .at))
 
-  room : c .before .loop .at + 8 ≤ length (c .before .loop .pending)
-  room = releasing-room _ _ _ _ _ _ _ _ (c .before .loop .inv) (c .loop-test .taken)
+  room : at-loop .loop .at + 8 ≤ length (at-loop .loop .pending)
+  room = releasing-room _ _ _ _ _ _ _ _ (at-loop .loop .inv) (c .loop-test .taken)
 
-  fits : c .before .loop .sent + length p ≤ length (c .before .loop .out)
-  fits = releasing-fits _ _ _ _ _ _ _ _ (start .pre .1) (c .before .loop .inv) room
+  fits : at-loop .loop .sent + length p ≤ length (at-loop .loop .out)
+  fits = releasing-fits _ _ _ _ _ _ _ _ (start .pre .1) (at-loop .loop .inv) room
 
 loop-holds : tie.Need-loop-holds Inv-loop μ-loop
 loop-holds c = releasing-all _ _ _ _ (c .before .before .before .pre .0)
@@ -43,28 +49,37 @@ part-release-word-end : tie.Need-part-release-word-end Inv-loop μ-loop
 part-release-word-end c = search needs
 
 release-word-requires : tie.Need-release-word-requires Inv-loop μ-loop
-release-word-requires c κs = let d = c .before .before in
-    (d .before .loop .inv .lent, room d, simp (length-take, length-drop) (omega (arith, fits d)))
+release-word-requires c κs =
+    let in-loop = c .before .before in
+    (at-loop in-loop .loop .inv .lent, room in-loop, simp (length-take, length-drop) (omega (arith, fits in-loop)))
 
 add-sent : tie.Need-add-sent Inv-loop μ-loop
-add-sent c = let f = c .before .before .before .before in
-    omega (arith, fits (f .before .before .before), f .release-word .ensures .sent .count)
+add-sent c =
+    let at-release-word = c .before .before .before .before in
+    let in-loop = at-release-word .before .before .before in
+    omega (arith, fits in-loop, at-release-word .release-word .ensures .sent .count)
 
 add-at : tie.Need-add-at Inv-loop μ-loop
-add-at c = omega (arith, room (c .before .before .before .before .before .before .before))
+add-at c =
+    let in-loop = c .before .before .before .before .before .before .before in
+    omega (arith, room in-loop)
 
 loop-less : tie.Need-loop-less Inv-loop μ-loop
-loop-less c = let f = c .before .before .before .before in
-    omega (arith, room (f .before .before .before), f .release-word .kept .1 .1 .0)
+loop-less c =
+    let at-release-word = c .before .before .before .before in
+    let in-loop = at-release-word .before .before .before in
+    omega (arith, room in-loop, at-release-word .release-word .kept .1 .1 .0)
 
 loop-again : tie.Need-loop-again Inv-loop μ-loop
-loop-again c = let f = c .before .before .before .before in
-    let d = f .before .before .before in
-    let l = d .before .loop in
-    let call = f .release-word in
-    releasing-next _ _ _ _ (l .out) (l .pending) (l .sent) (l .at) (call .result) _ _ (start d .pre .1) (l .inv) (room d) (call .ensures .sent .count)
-    (c .before .before .before .out .given .1)
-    (placed (l .out) (l .sent) (p d) (call .last .0) (call .ensures .sent .bytes))
+loop-again c =
+    let at-out = c .before .before .before in
+    let at-release-word = at-out .before in
+    let in-loop = at-release-word .before .before .before in
+    let l = at-loop in-loop .loop in
+    let call = at-release-word .release-word in
+    releasing-next _ _ _ _ (l .out) (l .pending) (l .sent) (l .at) (call .result) _ _ (start in-loop .pre .1) (l .inv) (room in-loop) (call .ensures .sent .count)
+    (at-out .out .given .1)
+    (placed (l .out) (l .sent) (p in-loop) (call .last .0) (call .ensures .sent .bytes))
     (call .ensures .cleared)
 
 same-length : tie.Need-same-length Inv-loop μ-loop

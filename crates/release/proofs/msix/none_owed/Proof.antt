@@ -5,6 +5,7 @@ use Prim.Native.Nat.{ℕ, _+_, _-_, _%_, _≤_}
 use native.Mathlib.Omega.{arith}
 use lib.ListN.{length}
 use denote.Ref.{now}
+use Rattle.words.specs.Bytes.{Bytes}
 use Rattle.model.specs.Sound.{isEmpty}
 use Rattle.release.specs.Owed.{entries, owedEntries, owedWord}
 use Rattle.release.proofs.PendingWords.{owedFrom, owed-all, owed-split, owed-end, word-empty, word-nonempty}
@@ -17,12 +18,16 @@ Inv-loop table pending at₀ at = (at % 8 ≡ 0) × (at ≤ length pending) × (
 abbrev μ-loop : tie.MeasureT-loop
 μ-loop table pending at₀ at = length pending - at
 
+-- the word of a turn, and what is owed behind it
 module _ (c : tie.In-loop Inv-loop μ-loop) where
-  abbrev start : tie.Start Inv-loop μ-loop
-  start = c .before .before .before .before
+  abbrev at-loop : tie.At-loop Inv-loop μ-loop
+  at-loop = c .before
 
-  room : c .before .loop .at + 8 ≤ length (now (start .args .pending))
-  room = omega (arith, c .before .loop .inv .0, start .pre .words)
+  abbrev start : tie.Start Inv-loop μ-loop
+  start = at-loop .before .before .before
+
+  abbrev at : ℕ
+  at = at-loop .loop .at
 
   abbrev t : List ℕ
   t = now (start .args .table)
@@ -30,8 +35,14 @@ module _ (c : tie.In-loop Inv-loop μ-loop) where
   abbrev p : List ℕ
   p = now (start .args .pending)
 
-  split : owedEntries t p (entries t) ≡ owedWord t p (c .before .loop .at) ++ owedFrom t p (c .before .loop .at + 8)
-  split = c .before .loop .inv .2 ∙ owed-split t p (c .before .loop .at) room
+  bytes : Bytes p
+  bytes i = at-loop .before .shared-slice-known2 .given i .fits
+
+  room : at + 8 ≤ length p
+  room = omega (arith, at-loop .loop .inv .0, start .pre .words)
+
+  split : owedEntries t p (entries t) ≡ owedWord t p at ++ owedFrom t p (at + 8)
+  split = at-loop .loop .inv .2 ∙ owed-split t p at room
 
 loop-holds : tie.Need-loop-holds Inv-loop μ-loop
 loop-holds c = (omega arith, omega arith, sym (owed-all _ _ (c .before .before .pre)))
@@ -41,11 +52,11 @@ open-word-requires c κs = (start c .pre, room c)
 
 returns : tie.Need-returns Inv-loop μ-loop
 returns c =
-    let d = c .before .before in
+    let in-loop = c .before .before in
+    let opened = c .before .open-word in
     sym
-    (ap isEmpty (split d)
-    ∙ word-nonempty _ _ _ (c .before .open-word .result) (λ i. d .before .before .shared-slice-known2 .given i .fits) (c .before .open-word .ensures) _
-    (omega arith) (omega (arith, c .before .open-word .ok)))
+    (ap isEmpty (split in-loop)
+    ∙ word-nonempty _ _ _ (opened .result) (bytes in-loop) (opened .ensures) _ (omega arith) (omega (arith, opened .ok)))
 
 add-at : tie.Need-add-at Inv-loop μ-loop
 add-at c = omega (arith, room (c .before .before))
@@ -55,9 +66,13 @@ loop-less c = omega (arith, room (c .before .before))
 
 loop-again : tie.Need-loop-again Inv-loop μ-loop
 loop-again c =
-    let d = c .before .before in
-    let e = word-empty _ _ _ (c .before .open-word .result) (λ i. d .before .before .shared-slice-known2 .given i .fits) (c .before .open-word .ensures) (c .if1 .left) in
-    (omega (arith, d .before .loop .inv .0), room d, split d ∙ ap (λ (l : List ℕ). l ++ owedFrom (t d) (p d) (d .before .loop .at + 8)) e)
+    let in-loop = c .before .before in
+    let opened = c .before .open-word in
+    let e = word-empty _ _ _ (opened .result) (bytes in-loop) (opened .ensures) (c .if1 .left) in (
+      omega (arith, at-loop in-loop .loop .inv .0),
+      room in-loop,
+      split in-loop ∙ ap (λ (l : List ℕ). l ++ owedFrom (t in-loop) (p in-loop) (at in-loop + 8)) e,
+    )
 
 returns-2 : tie.Need-returns-2 Inv-loop μ-loop
 unfolding isEmpty

@@ -14,9 +14,10 @@ use borrow.Author.Needs.{needs}
 use Rattle.release.proofs.msix.release_word.Statement.{statement}
 use Rattle.release.proofs.msix.release_word.Tie as tie
 
-module _ (o : tie.After-open-word) where
+-- the open bits of the word are known
+module _ (opened : tie.After-open-word) where
   abbrev start : tie.Start
-  start = o .before .before .before .before .before
+  start = let at-slices = opened .before .before in at-slices .before .before .before
 
   abbrev t : List ℕ
   t = now (start .args .table)
@@ -25,7 +26,7 @@ module _ (o : tie.After-open-word) where
   p = now (start .args .pending)
 
   bytes : Bytes p
-  bytes i = o .before .before .slice-known2 .given i .fits
+  bytes i = opened .before .before .slice-known2 .given i .fits
 
 open-word-requires : tie.Need-open-word-requires
 open-word-requires c κs = search needs
@@ -34,8 +35,9 @@ same-length : tie.Need-same-length
 same-length c = search needs
 
 returns : tie.Need-returns
-returns c = let o = c .before in
-    released-none _ _ _ _ _ (word-empty (t o) (p o) (start o .args .at) (o .open-word .result) (bytes o) (o .open-word .ensures) (c .if1 .taken))
+returns c =
+    let opened = c .before in
+    released-none _ _ _ _ _ (word-empty (t opened) (p opened) (start opened .args .at) (opened .open-word .result) (bytes opened) (opened .open-word .ensures) (c .if1 .taken))
 
 word64-requires : tie.Need-word64-requires
 word64-requires c κs = search needs
@@ -56,10 +58,12 @@ mul-word-send : tie.Need-mul-word-send
 mul-word-send c = search needs
 
 word-send-requires : tie.Need-word-send-requires
-word-send-requires c κs = let o = c .before .before .before .before .before .before .before .before in
-    let a = start o .args in (
-      open-backed (t o) (p o) (a .at) (o .open-word .result) (bytes o) (start o .pre .0) (o .open-word .ensures),
-      omega (arith, ap length (word-packets (t o) (p o) (a .at) (o .open-word .result) (bytes o) (o .open-word .ensures) (a .requester)), start o .pre .2),
+word-send-requires c κs =
+    let opened = c .before .before .before .before .before .before .before .before in
+    let a = start opened .args in
+    let packets = word-packets (t opened) (p opened) (a .at) (opened .open-word .result) (bytes opened) (opened .open-word .ensures) (a .requester) in (
+      open-backed (t opened) (p opened) (a .at) (opened .open-word .result) (bytes opened) (start opened .pre .0) (opened .open-word .ensures),
+      omega (arith, ap length packets, start opened .pre .2),
     )
 
 same-length-2 : tie.Need-same-length-2
@@ -69,13 +73,17 @@ same-length-3 : tie.Need-same-length-3
 same-length-3 c = search needs
 
 returns-2 : tie.Need-returns-2
-returns-2 c = let e = c .before .before .before .before .before .before in
-    let o = e .before .before .before .before .before in
-    let a = start o .args in
-    let r = o .open-word .result in
-    released-word _ (t o) (p o) _ (a .at) r (e .before .before .word64 .result) _ _ _ (bytes o) (start o .pre .1) (omega (arith, o .open-word .ok)) (e .before .before .word64 .ensures)
-    (o .open-word .ensures) (c .before .before .word-send .ensures)
-    (placed (p o) (a .at) (bytesOf 8 (bitAnd ((2 ^ 64 - 1) - r) (e .before .before .word64 .result))) (e .put-le .last .0) (e .put-le .ensures .bytes))
+returns-2 c =
+    let at-word-send = c .before .before in
+    let at-put-le = at-word-send .before .before .before .before in
+    let at-word64 = at-put-le .before .before in
+    let opened = at-word64 .before .before .before in
+    let a = start opened .args in
+    let r = opened .open-word .result in
+    released-word _ (t opened) (p opened) _ (a .at) r (at-word64 .word64 .result) _ _ _ (bytes opened) (start opened .pre .1)
+    (omega (arith, opened .open-word .ok)) (at-word64 .word64 .ensures)
+    (opened .open-word .ensures) (at-word-send .word-send .ensures)
+    (placed (p opened) (a .at) (bytesOf 8 (bitAnd ((2 ^ 64 - 1) - r) (at-word64 .word64 .result))) (at-put-le .put-le .last .0) (at-put-le .put-le .ensures .bytes))
 
 pub release-word-spec : {M : Type 1} → statement M
 release-word-spec =

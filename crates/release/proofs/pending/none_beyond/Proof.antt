@@ -21,9 +21,11 @@ shr-result : tie.Need-shr-result
 shr-result c = search needs
 
 returns-2 : tie.Need-returns-2
-returns-2 c = let s = c .before .before .before in
-    ap (λ (x : ℕ). eqb (x / 2 ^ (s .args .n % 64)) 0) (c .word64 .ensures)
-    ∙ beyond-word (now (s .args .pending)) (s .args .n) (λ i. c .before .before .shared-slice-known .given i .fits) (s .pre) (c .before .if1 .left)
+returns-2 c =
+    let at-shared-slice-known = c .before .before in
+    let start = at-shared-slice-known .before in
+    ap (λ (x : ℕ). eqb (x / 2 ^ (start .args .n % 64)) 0) (c .word64 .ensures)
+    ∙ beyond-word (now (start .args .pending)) (start .args .n) (λ i. at-shared-slice-known .shared-slice-known .given i .fits) (start .pre) (c .before .if1 .left)
 
 pub none-beyond-spec : {M : Type 1} → statement M
 none-beyond-spec = tie.close (tie.spec returns mul-word64 word64-requires shr-result returns-2)

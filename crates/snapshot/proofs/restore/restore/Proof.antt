@@ -1,21 +1,55 @@
+-- The checks in their order, one law for each refusal; what the image passed is gathered in `saved`. Assumes nothing.
 use denote.Ref.{now}
-use mathlib.Core.Path.{sym, _∙_}
+use mathlib.Core.Path.{_≡_, sym, _∙_}
+use mathlib.Core.Bool.{true}
+use lib.ListN.{take}
 use native.Mathlib.Omega.{arith}
 use borrow.Author.Tests.{not-false}
+use Rattle.words.specs.Lists.{same}
+use Rattle.words.specs.Bytes.{word16}
+use Rattle.model.specs.Image.{mark}
 use Rattle.snapshot.proofs.RestoreFor.{Saved, no-image, no-mark, other-version, is-image, not-saved, room, other-table, other-pending, filled, restored}
 use borrow.Author.Needs.{needs}
 use Rattle.snapshot.proofs.restore.restore.Statement.{statement}
 use Rattle.snapshot.proofs.restore.restore.Tie as tie
 
--- the image passed every check but 17
-saved : (c : tie.Else4) → Saved (now (c .before .before .before .before .before .before .before .before .before .before .before .before .args .image)) (c .before .before .before .held-card .result) (c .before .before .table-length .result)
-saved c = record {
-  long = c .before .before .before .before .before .before .before .before .if1 .left;
-  image = is-image _ (c .before .before .before .before .before .before .before .before .if1 .left) _ (c .before .before .before .before .before .before .before .is-marked .ensures) (c .before .before .before .before .before .before .if2 .left) _ (c .before .before .before .before .before .version .ensures) (c .before .before .before .before .if3 .left);
-  saved = sym (c .before .is-saved .ensures) ∙ not-false _ (c .if4 .left);
-  isCard = c .before .before .before .held-card .ensures;
-  isLength = c .before .before .table-length .ensures .0;
-}
+-- the image has its mark and version 1
+module _ (c : tie.Else3) where
+  abbrev at-version : tie.After-version
+  at-version = c .before
+
+  abbrev at-is-marked : tie.After-is-marked
+  at-is-marked = let at-if2 = at-version .before in at-if2 .before
+
+  abbrev at-if1 : tie.Else1
+  at-if1 = at-is-marked .before
+
+  abbrev start : tie.Start
+  start = let entry = at-if1 .before in entry .before .before .before
+
+  image-passed : (same (take 3 (now (start .args .image))) mark ≡ true) × (word16 (now (start .args .image)) 3 ≡ 1)
+  image-passed =
+      is-image _ (at-if1 .if1 .left) _ (at-is-marked .is-marked .ensures) (at-version .before .if2 .left) _ (at-version .version .ensures) (c .if3 .left)
+
+-- it passed every check but 17
+module _ (c : tie.Else4) where
+  abbrev at-table-length : tie.After-table-length
+  at-table-length = let at-is-saved = c .before in at-is-saved .before
+
+  abbrev at-held-card : tie.After-held-card
+  at-held-card = at-table-length .before
+
+  abbrev at-if3 : tie.Else3
+  at-if3 = at-held-card .before
+
+  saved : Saved (now (start at-if3 .args .image)) (at-held-card .held-card .result) (at-table-length .table-length .result)
+  saved = record {
+    long = at-if1 at-if3 .if1 .left;
+    image = image-passed at-if3;
+    saved = sym (c .before .is-saved .ensures) ∙ not-false _ (c .if4 .left);
+    isCard = at-held-card .held-card .ensures;
+    isLength = at-table-length .table-length .ensures .0;
+  }
 
 refused-requires : tie.Need-refused-requires
 refused-requires c κs = search needs
@@ -30,7 +64,11 @@ refused-requires-2 : tie.Need-refused-requires-2
 refused-requires-2 c κs = search needs
 
 returns-2 : tie.Need-returns-2
-returns-2 c = no-mark _ (c .before .before .before .if1 .left) _ (c .before .before .is-marked .ensures) _ _ _ _ (c .before .if2 .taken) (c .refused2 .ensures)
+returns-2 c =
+    let at-if2 = c .before in
+    let at-is-marked = at-if2 .before in
+    let at-if1 = at-is-marked .before in
+    no-mark _ (at-if1 .if1 .left) _ (at-is-marked .is-marked .ensures) _ _ _ _ (at-if2 .if2 .taken) (c .refused2 .ensures)
 
 version-requires : tie.Need-version-requires
 version-requires c κs = search needs
@@ -39,7 +77,14 @@ refused-requires-3 : tie.Need-refused-requires-3
 refused-requires-3 c κs = search needs
 
 returns-3 : tie.Need-returns-3
-returns-3 c = other-version _ (c .before .before .before .before .before .if1 .left) _ (c .before .before .before .before .is-marked .ensures) (c .before .before .before .if2 .left) _ (c .before .before .version .ensures) _ _ _ _ (c .before .if3 .taken) (c .refused3 .ensures)
+returns-3 c =
+    let at-if3 = c .before in
+    let at-version = at-if3 .before in
+    let at-if2 = at-version .before in
+    let at-is-marked = at-if2 .before in
+    let at-if1 = at-is-marked .before in
+    other-version _ (at-if1 .if1 .left) _ (at-is-marked .is-marked .ensures) (at-if2 .if2 .left) _ (at-version .version .ensures) _ _ _ _
+    (at-if3 .if3 .taken) (c .refused3 .ensures)
 
 held-card-requires : tie.Need-held-card-requires
 held-card-requires c κs = search needs
@@ -48,14 +93,21 @@ table-length-requires : tie.Need-table-length-requires
 table-length-requires c κs = search needs
 
 is-saved-requires : tie.Need-is-saved-requires
-is-saved-requires c κs = let e = is-image _ (c .before .before .before .before .before .before .if1 .left) _ (c .before .before .before .before .before .is-marked .ensures) (c .before .before .before .before .if2 .left) _ (c .before .before .before .version .ensures) (c .before .before .if3 .left) in
-    ((c .before .before .before .before .before .before .if1 .left), e .0, e .1, (c .before .held-card .ensures), (c .table-length .ensures .0), (c .table-length .ensures .1))
+is-saved-requires c κs =
+    let at-held = c .before in
+    let past-3 = at-held .before in
+    let e = image-passed past-3 in
+    (at-if1 past-3 .if1 .left, e .0, e .1, at-held .held-card .ensures, c .table-length .ensures .0, c .table-length .ensures .1)
 
 refused-requires-4 : tie.Need-refused-requires-4
 refused-requires-4 c κs = search needs
 
 returns-4 : tie.Need-returns-4
-returns-4 c = not-saved _ (c .before .before .before .before .before .before .before .before .before .if1 .left) (is-image _ (c .before .before .before .before .before .before .before .before .before .if1 .left) _ (c .before .before .before .before .before .before .before .before .is-marked .ensures) (c .before .before .before .before .before .before .before .if2 .left) _ (c .before .before .before .before .before .before .version .ensures) (c .before .before .before .before .before .if3 .left)) _ (c .before .before .is-saved .ensures) _ _ _ _ (c .before .if4 .taken) (c .refused4 .ensures)
+returns-4 c =
+    let at-if4 = c .before in
+    let at-is-saved = at-if4 .before in
+    let past-3 = at-is-saved .before .before .before in
+    not-saved _ (at-if1 past-3 .if1 .left) (image-passed past-3) _ (at-is-saved .is-saved .ensures) _ _ _ _ (at-if4 .if4 .taken) (c .refused4 .ensures)
 
 refused-requires-5 : tie.Need-refused-requires-5
 refused-requires-5 c κs = search needs
@@ -73,10 +125,18 @@ refused-requires-6 : tie.Need-refused-requires-6
 refused-requires-6 c κs = search needs
 
 returns-6 : tie.Need-returns-6
-returns-6 c = other-pending _ _ _ (saved (c .before .before .before)) _ _ _ (c .before .before .if5 .left) _ (c .before .if6 .taken) (c .refused6 .ensures)
+returns-6 c =
+    let at-if6 = c .before in
+    let at-if5 = at-if6 .before in
+    other-pending _ _ _ (saved (at-if5 .before)) _ _ _ (at-if5 .if5 .left) _ (at-if6 .if6 .taken) (c .refused6 .ensures)
 
 copy-buffers-requires : tie.Need-copy-buffers-requires
-copy-buffers-requires c κs = filled _ _ _ (saved (c .before .before .before .before)) (c .before .before .before .before .before .before .before .before .before .before .before .before .before .before .before .before .args .card) (now (c .before .before .before .before .before .before .before .before .before .before .before .before .before .before .before .before .args .table)) (now (c .before .before .before .before .before .before .before .before .before .before .before .before .before .before .before .before .args .pending)) (c .before .before .before .if5 .left) (c .before .before .if6 .left)
+copy-buffers-requires c κs =
+    let at-if6 = c .before .before in
+    let at-if5 = at-if6 .before in
+    let past-4 = at-if5 .before in
+    let a = start (at-if3 past-4) .args in
+    filled _ _ _ (saved past-4) (a .card) (now (a .table)) (now (a .pending)) (at-if5 .if5 .left) (at-if6 .if6 .left)
 
 accepted-requires : tie.Need-accepted-requires
 accepted-requires c κs = search needs
@@ -88,7 +148,14 @@ same-length-2 : tie.Need-same-length-2
 same-length-2 c = search needs
 
 returns-7 : tie.Need-returns-7
-returns-7 c = restored _ _ _ (saved (c .before .before .before .before .before .before .before .before .before .before)) _ (now (c .before .before .before .before .before .before .before .before .before .before .before .before .before .before .before .before .before .before .before .before .before .before .args .table)) (now (c .before .before .before .before .before .before .before .before .before .before .before .before .before .before .before .before .before .before .before .before .before .before .args .pending)) (c .before .before .before .before .before .before .before .before .before .if5 .left) (c .before .before .before .before .before .before .before .before .if6 .left) _ _ _ (c .before .before .before .before .before .copy-buffers .ensures .0) (c .before .before .before .before .before .copy-buffers .ensures .1) (c .accepted .ensures)
+returns-7 c =
+    let at-copy-buffers = c .before .before .before .before .before in
+    let at-if6 = at-copy-buffers .before .before .before in
+    let at-if5 = at-if6 .before in
+    let past-4 = at-if5 .before in
+    let a = start (at-if3 past-4) .args in
+    restored _ _ _ (saved past-4) _ (now (a .table)) (now (a .pending)) (at-if5 .if5 .left) (at-if6 .if6 .left) _ _ _
+    (at-copy-buffers .copy-buffers .ensures .0) (at-copy-buffers .copy-buffers .ensures .1) (c .accepted .ensures)
 
 pub restore-spec : {M : Type 1} → statement M
 restore-spec =

@@ -5,7 +5,7 @@ use native.Mathlib.Omega.{arith}
 use borrow.Author.Needs.{needs}
 use Rattle.words.specs.Bits.{field}
 use Rattle.model.specs.Vectors.{enableField}
-use Rattle.model.proofs.PlaceLaws.{size-large}
+use Rattle.model.proofs.Shapes.PlaceLaws.{size-large}
 use Rattle.vectors.proofs.granted.granted_log.Statement.{statement}
 use Rattle.vectors.proofs.granted.granted_log.Tie as tie
 

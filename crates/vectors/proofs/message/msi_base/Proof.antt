@@ -6,7 +6,7 @@ use native.Mathlib.Nat.{div-add-mod', mod-le}
 use lib.ListN.{length}
 use denote.Ref.{now}
 use borrow.Author.Needs.{needs}
-use Rattle.model.proofs.PlaceLaws.{size-large}
+use Rattle.model.proofs.Shapes.PlaceLaws.{size-large}
 use Rattle.model.specs.Packets.{msiAddress}
 use Rattle.vectors.specs.Messages.{msiBase}
 use Rattle.vectors.proofs.message.msi_base.Statement.{statement}
@@ -38,10 +38,10 @@ word32-requires : tie.Need-word32-requires
 word32-requires c κs =
     let a = c .before .before .before .before .before in
     let n : length (now (a .args .c)) ≡ 256 = search needs in
-    omega (arith, n, a .pre, size-large (a .args .s))
+    omega (arith, n, a .pre .0, size-large (a .args .s))
 
-sub-t11 : tie.Need-sub-t11
-sub-t11 c =
+sub-t12 : tie.Need-sub-t12
+sub-t12 c =
     let d = c .before .before .before .before in
     omega (arith, mod-le (d .msi-data .result) (d .before .granted .result))
 
@@ -63,5 +63,5 @@ msi-base-spec =
     msi-upper-requires
     add-word32
     word32-requires
-    sub-t11
+    sub-t12
     returns)

@@ -13,19 +13,20 @@ use Rattle.vectors.proofs.message.msi_message.Tie as tie
 msi-base-requires : tie.Need-msi-base-requires
 msi-base-requires c κs = search needs
 
-cast-t5 : tie.Need-cast-t5
-cast-t5 c = search needs
+cast-t6 : tie.Need-cast-t6
+cast-t6 c = search needs
 
-add-t6 : tie.Need-add-t6
-add-t6 c = search needs
+add-t7 : tie.Need-add-t7
+add-t7 c = search needs
 
 returns : tie.Need-returns
 returns c =
-    let b = c .before .before in
-    let a = b .before .args in
+    let at-msi-base = c .before .before in
+    let start = at-msi-base .before in
+    let a = start .args in
     λ requester t.
-    ap (λ (m : Message). message requester (m .upper) (m .address) (m .value + a .v .0)) (b .msi-base .ensures .0 t)
+    ap (λ (m : Message). message requester (m .upper) (m .address) (m .value + a .v .0)) (at-msi-base .msi-base .ensures .0 t)
     ∙ base-message (a .s) (regs (now (a .c)) t) requester (a .v .0)
 
 pub msi-message-spec : {M : Type 1} → statement M
-msi-message-spec = tie.close (tie.spec msi-base-requires cast-t5 add-t6 returns)
+msi-message-spec = tie.close (tie.spec msi-base-requires cast-t6 add-t7 returns)

@@ -25,16 +25,17 @@ add-word32 c = search needs
 
 word32-requires : tie.Need-word32-requires
 word32-requires c κs =
-    let e = c .before .before in
-    let a = e .before .before in
-    let n : length (now (a .args .c)) ≡ 256 = search needs in
-    omega (arith, n, a .pre, upper-inside (a .args .s) (is-wide e))
+    let at-if1 = c .before .before in
+    let start = at-if1 .before .before in
+    let n : length (now (start .args .c)) ≡ 256 = search needs in
+    omega (arith, n, start .pre, upper-inside (start .args .s) (is-wide at-if1))
 
 returns-2 : tie.Need-returns-2
 returns-2 c =
-    let e = c .before .before .before in
-    let a = e .before .before .args in
-    λ t. c .word32 .ensures ∙ has-upper (a .s) (regs (now (a .c)) t) (is-wide e)
+    let at-if1 = c .before .before .before in
+    let start = at-if1 .before .before in
+    let a = start .args in
+    λ t. c .word32 .ensures ∙ has-upper (a .s) (regs (now (a .c)) t) (is-wide at-if1)
 
 pub msi-upper-spec : {M : Type 1} → statement M
 msi-upper-spec = tie.close (tie.spec returns add-word32 word32-requires returns-2)

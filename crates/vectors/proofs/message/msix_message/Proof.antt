@@ -1,6 +1,6 @@
 -- Three words of the entry. Assumes nothing.
 use borrow.Author.Needs.{needs}
-use Rattle.model.specs.Packets.{messageOf}
+use Rattle.model.specs.Packets.{messageOf, entryMessage}
 use Rattle.vectors.proofs.message.msix_message.Statement.{statement}
 use Rattle.vectors.proofs.message.msix_message.Tie as tie
 
@@ -26,7 +26,7 @@ word32-requires-3 : tie.Need-word32-requires-3
 word32-requires-3 c κs = search needs
 
 returns : tie.Need-returns
-unfolding messageOf
+unfolding messageOf entryMessage
 returns c = λ s requester d. rw (c .before .before .word32 .ensures, c .before .word322 .ensures, c .word323 .ensures)
 
 pub msix-message-spec : {M : Type 1} → statement M

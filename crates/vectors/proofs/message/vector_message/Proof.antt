@@ -13,26 +13,34 @@ enum-told-2 : tie.Need-enum-told-2
 enum-told-2 c = search needs
 
 msi-message-requires : tie.Need-msi-message-requires
-msi-message-requires c κs = search needs
+msi-message-requires c κs =
+    let k = c .before .before .before .pre .0 in
+    (k .fits, k .form)
 
 enum-told-3 : tie.Need-enum-told-3
 enum-told-3 c = search needs
 
 msix-message-requires : tie.Need-msix-message-requires
 msix-message-requires c κs =
-    let a = c .before .before .before in
-    entry-inside (a .args .s) (length (now (a .args .table))) (a .args .v .0) (rw (c .enum-told3 .given .1) at (a .pre .2)) (a .pre .1)
+    let start = c .before .before .before in
+    let a = start .args in
+    entry-inside (a .k .shape) (length (now (a .table))) (a .v .0) (rw (c .enum-told3 .given .1) at (start .pre .2)) (start .pre .1)
 
 returns : tie.Need-returns
 returns c =
-    let a = c .before .before .before in
-    absurd (pin-has-none (a .args .s) (a .args .v .0) (rw (c .enum-told .given .1) at (a .pre .2)))
+    let start = c .before .before .before in
+    absurd (pin-has-none (start .args .k .shape) (start .args .v .0) (rw (c .enum-told .given .1) at (start .pre .2)))
 
 returns-2 : tie.Need-returns-2
-returns-2 c = λ requester. rw (c .before .enum-told2 .given .1) (c .msi-message .ensures requester (now (c .before .before .before .before .args .table)))
+returns-2 c =
+    let start = c .before .before .before .before in
+    λ requester. rw (c .before .enum-told2 .given .1) (c .msi-message .ensures requester (now (start .args .table)))
 
 returns-3 : tie.Need-returns-3
-returns-3 c = let a = c .before .before .before .before .args in λ requester. rw (c .before .enum-told3 .given .1) (c .msix-message .ensures (a .s) requester (now (a .c)))
+returns-3 c =
+    let start = c .before .before .before .before in
+    let a = start .args in
+    λ requester. rw (c .before .enum-told3 .given .1) (c .msix-message .ensures (a .k .shape) requester (now (a .c)))
 
 pub vector-message-spec : {M : Type 1} → statement M
 vector-message-spec =

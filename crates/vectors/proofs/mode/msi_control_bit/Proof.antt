@@ -1,7 +1,7 @@
 -- A bit of one register, by `config_bit`. Assumes nothing.
 use native.Mathlib.Omega.{arith}
 use borrow.Author.Needs.{needs}
-use Rattle.model.proofs.PlaceLaws.{size-large}
+use Rattle.model.proofs.Shapes.PlaceLaws.{size-large}
 use Rattle.model.specs.Vectors.{msiControlBit}
 use Rattle.vectors.proofs.mode.msi_control_bit.Statement.{statement}
 use Rattle.vectors.proofs.mode.msi_control_bit.Tie as tie

@@ -11,7 +11,7 @@ cast-n : tie.Need-cast-n
 cast-n c = search needs
 
 returns : tie.Need-returns
-returns c = let a = c .before .before .args in λ t. sym (open-below (a .s) (regs (now (a .c)) t) (a .v .0) (c .before .before .pre .capable) (c .if1 .taken))
+returns c = let a = c .before .before .args in λ t. sym (open-below (a .s) (regs (now (a .c)) t) (a .v .0) (c .before .before .pre .0 .capable) (c .if1 .taken))
 
 msi-open-requires : tie.Need-msi-open-requires
 msi-open-requires c κs = search needs
@@ -20,7 +20,9 @@ word-bit-requires : tie.Need-word-bit-requires
 word-bit-requires c κs = search needs
 
 returns-2 : tie.Need-returns-2
-returns-2 c = λ t. c .word-bit .ensures ∙ c .before .msi-open .ensures t (c .before .before .before .before .args .v .0)
+returns-2 c =
+    let start = c .before .before .before .before in
+    λ t. c .word-bit .ensures ∙ c .before .msi-open .ensures t (start .args .v .0)
 
 pub msi-is-open-spec : {M : Type 1} → statement M
 msi-is-open-spec =

@@ -14,16 +14,20 @@ cast-n c = search needs
 
 returns : tie.Need-returns
 returns c =
-    let a = c .before .before .before .before .args in
+    let start = c .before .before .before .before in
+    let a = start .args in
     no-vector (a .s) (regs (now (a .c)) (now (a .table))) (a .v .0) (c .if1 .taken)
 
 entry-masked-requires : tie.Need-entry-masked-requires
 unfolding tableBytes
-entry-masked-requires c κs = omega (arith, c .before .before .before .before .pre .1)
+entry-masked-requires c κs =
+    let start = c .before .before .before .before in
+    omega (arith, start .pre .1)
 
 returns-2 : tie.Need-returns-2
 returns-2 c =
-    let a = c .before .before .before .before .before .before .args in
+    let start = c .before .before .before .before .before .before in
+    let a = start .args in
     when-masked (a .s) (regs (now (a .c)) (now (a .table))) (a .v .0) (sym (c .before .entry-masked .ensures (a .s) (now (a .c))) ∙ c .if2 .taken)
 
 msix-enabled-requires : tie.Need-msix-enabled-requires
@@ -31,11 +35,13 @@ msix-enabled-requires c κs = search needs
 
 returns-3 : tie.Need-returns-3
 returns-3 c =
-    let e = c .before in
-    let a = e .before .before .before .before .before .before .args in
+    let at-entry-masked = c .before .before in
+    let at-if1 = at-entry-masked .before in
+    let start = at-if1 .before .before .before .before in
+    let a = start .args in
     c .msix-enabled .ensures (now (a .table))
-    ∙ when-clear (a .s) (regs (now (a .c)) (now (a .table))) (a .v .0) (e .before .before .if1 .left)
-    (sym (e .before .entry-masked .ensures (a .s) (now (a .c))) ∙ e .if2 .left)
+    ∙ when-clear (a .s) (regs (now (a .c)) (now (a .table))) (a .v .0) (at-if1 .if1 .left)
+    (sym (at-entry-masked .entry-masked .ensures (a .s) (now (a .c))) ∙ c .before .if2 .left)
 
 pub msix-is-open-spec : {M : Type 1} → statement M
 msix-is-open-spec =

@@ -1,3 +1,4 @@
+-- The level that the pin owes: low line, no pin, Interrupt Disable, then only with the pin in force. Assumes nothing.
 use Rattle.model.specs.declared.Mode.the-variants.{Pin, Msi, Msix}
 use Rattle.wire.proofs.WireLaws.{due-low, due-no-pin, due-disabled, due-mode}
 use Rattle.model.specs.Release.{isPin}
@@ -6,13 +7,13 @@ use Rattle.wire.proofs.Wiring.due.Statement.{statement}
 use Rattle.wire.proofs.Wiring.due.Tie as tie
 
 returns : tie.Need-returns
-returns c = due-low _ (search needs)
+returns c = due-low _ _ _ _ (search needs)
 
 returns-2 : tie.Need-returns-2
-returns-2 c = due-no-pin _ (search needs)
+returns-2 c = due-no-pin _ _ _ _ (search needs)
 
 returns-3 : tie.Need-returns-3
-returns-3 c = due-disabled _ (search needs)
+returns-3 c = due-disabled _ _ _ _ (search needs)
 
 enum-told : tie.Need-enum-told
 enum-told c = search needs
@@ -25,15 +26,15 @@ enum-told-3 c = search needs
 
 returns-4 : tie.Need-returns-4
 unfolding isPin
-returns-4 c = due-mode _ Pin (search needs) (search needs) (search needs) (c .enum-told .given .1)
+returns-4 c = due-mode _ _ _ _ Pin (search needs) (search needs) (search needs) (c .enum-told .given .1)
 
 returns-5 : tie.Need-returns-5
 unfolding isPin
-returns-5 c = due-mode _ Msi (search needs) (search needs) (search needs) (c .enum-told2 .given .1)
+returns-5 c = due-mode _ _ _ _ Msi (search needs) (search needs) (search needs) (c .enum-told2 .given .1)
 
 returns-6 : tie.Need-returns-6
 unfolding isPin
-returns-6 c = due-mode _ Msix (search needs) (search needs) (search needs) (c .enum-told3 .given .1)
+returns-6 c = due-mode _ _ _ _ Msix (search needs) (search needs) (search needs) (c .enum-told3 .given .1)
 
 pub due-spec : {M : Type 1} → statement M
 due-spec =

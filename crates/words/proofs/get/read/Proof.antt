@@ -58,8 +58,10 @@ loop-less c = search needs
 
 loop-again : tie.Need-loop-again Inv-loop μ-loop
 loop-again c =
-    let v = c .before .before .before .loop in
-    let a = c .before .before .before .before .before .args in
+    let at-loop = c .before .before .before in
+    let start = at-loop .before .before in
+    let v = at-loop .loop in
+    let a = start .args in
     let f = byte (now (a .s)) in
     let i = a .at + (v .left - 1) in
     let m = a .n - v .left in

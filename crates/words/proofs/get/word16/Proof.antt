@@ -32,9 +32,11 @@ add-result c = search needs
 returns : tie.Need-returns
 unfolding word16
 returns c =
-    let a = c .before .before .before .before .before .args in
+    let at-wide = c .before .before in
+    let start = at-wide .before .before .before in
+    let a = start .args in
     let f = byte (now (a .s)) in
-    rw (c .before .before .wide .ensures .0 ∙ sym (number-one f (a .at)), c .wide2 .ensures .0 ∙ sym (number-one f (a .at + 1)))
+    rw (at-wide .wide .ensures .0 ∙ sym (number-one f (a .at)), c .wide2 .ensures .0 ∙ sym (number-one f (a .at + 1)))
     (number-halves f (a .at) 1)
 
 pub word16-spec : {M : Type 1} → statement M

@@ -18,8 +18,10 @@ add-t5 c = search needs
 
 returns-3 : tie.Need-returns-3
 returns-3 c =
-    let a = c .before .before .before .before .args in
-    (again (a .self) (a .at) (a .hit) (c .before .before .before .if1 .left) (c .before .if2 .left), omega arith)
+    let at-if1 = c .before .before .before in
+    let start = at-if1 .before in
+    let a = start .args in
+    (again (a .self) (a .at) (a .hit) (at-if1 .if1 .left) (c .before .if2 .left), omega arith)
 
 pub with-spec : {M : Type 1} → statement M
 with-spec = tie.close (tie.spec returns returns-2 add-t5 returns-3)

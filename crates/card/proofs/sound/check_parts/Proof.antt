@@ -1,0 +1,41 @@
+-- The function is not sound, or the level of the wire decides. Assumes nothing.
+use denote.Ref.{now}
+use Rattle.model.specs.declared.Card.{Card}
+use Rattle.card.specs.Running.{cardWith}
+use Rattle.card.proofs.SoundFor.{check-function, check-wire}
+use borrow.Author.Needs.{needs}
+use Rattle.card.proofs.sound.check_parts.Statement.{statement}
+use Rattle.card.proofs.sound.check_parts.Tie as tie
+
+-- the card of the parts
+abbrev card-of : tie.Start → Card
+card-of c =
+    let a = c .args in
+    cardWith (now (a .config)) (now (a .sizes)) (a .events) (a .requester) (a .line) (a .waiting) (a .wire)
+
+check-requires : tie.Need-check-requires
+check-requires c κs = search needs
+
+wiring-requires : tie.Need-wiring-requires
+wiring-requires c κs = search needs
+
+returns : tie.Need-returns
+returns c =
+    let at-wiring = c .before .before in
+    let at-check = at-wiring .before .before in
+    let start = at-check .before .before .before in
+    check-function (card-of start) _ _ _ (at-check .check .ensures _) _ (at-wiring .wiring .ensures) (c .if1 .taken)
+
+due-requires : tie.Need-due-requires
+due-requires c κs = search needs
+
+returns-2 : tie.Need-returns-2
+returns-2 c =
+    let at-if1 = c .before in
+    let at-wiring = at-if1 .before .before in
+    let at-check = at-wiring .before .before in
+    let start = at-check .before .before .before in
+    check-wire (card-of start) _ _ _ (at-check .check .ensures _) _ (at-wiring .wiring .ensures) (at-if1 .if1 .left) _ (c .due .ensures)
+
+pub check-parts-spec : {M : Type 1} → statement M
+check-parts-spec = tie.close (tie.spec check-requires wiring-requires returns due-requires returns-2)

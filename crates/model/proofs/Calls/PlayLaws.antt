@@ -1,0 +1,89 @@
+-- Plays of cases: what makes a call right, steps one after another, whole cases. Assumes nothing.
+use mathlib.Core.Path.{_≡_, refl, sym, ap, _∙_}
+use mathlib.Core.Bool.{true, false}
+use mathlib.Core.List.{List, [], _∷_, _++_, map}
+use Prim.Native.Nat.{ℕ, zero, suc, _+_, _≤_, _<_}
+use native.Mathlib.Omega.{arith}
+use lib.Dec.{eqb}
+use lib.ListN.{length}
+use borrow.Author.Tests.{eq-eqb, ne-eqb, eqb-true, eqb-false}
+use Rattle.words.specs.Lists.{same, count}
+use Rattle.words.specs.Writers.{over}
+use Rattle.words.proofs.BoolLaws.{both, and-intro, by-test, of-T}
+use Rattle.model.specs.declared.Answer.{Answer}
+use Rattle.model.specs.Calls.{Outcome}
+use Rattle.model.specs.Play.{Step, Played, kindOf, detailOf, sameAnswer, right, played, playedAll, passes, allPass}
+use Rattle.model.specs.Cases.{starredCases, limitCases, benchCases}
+use Rattle.model.proofs.Starred.{starred, limits}
+
+-- ---- answers
+
+module _ (a b : Answer) (k l : ℕ) (ek : k ≡ kindOf a) (el : l ≡ kindOf b) where
+  pub other-kind : (k ≡ l → ⊥) → false ≡ sameAnswer a b
+  unfolding sameAnswer
+  other-kind n = rw (ne-eqb (kindOf a) (kindOf b) (λ q. n (ek ∙ q ∙ sym el)))
+
+  pub same-kind : (x y : ℕ) → k ≡ l → x ≡ detailOf a → y ≡ detailOf b → eqb x y ≡ sameAnswer a b
+  unfolding sameAnswer
+  same-kind x y q ex ey = rw (eq-eqb (kindOf a) (kindOf b) (sym ek ∙ q ∙ el), ex, ey)
+
+-- ---- a call
+
+module _ (r : Outcome) (answer : Answer) (bytes out : List ℕ) where
+  pub other-answer : sameAnswer (r .answer) answer ≡ false → false ≡ right r answer bytes out
+  unfolding right
+  other-answer e = rw e
+
+  module _ (a : sameAnswer (r .answer) answer ≡ true) where
+    pub other-count : (r .count ≡ length bytes → ⊥) → false ≡ right r answer bytes out
+    unfolding right
+    other-count n = rw (a, ne-eqb (r .count) (length bytes) n)
+
+    pub by-output : r .count ≡ length bytes → right r answer bytes out ≡ same (r .output) (over bytes out)
+    unfolding right
+    by-output e = rw (a, eq-eqb (r .count) (length bytes) e)
+
+-- an outcome is right whatever its world is
+pub right-anywhere : (r s : Outcome) (answer : Answer) (bytes out : List ℕ) → r .answer ≡ s .answer → r .count ≡ s .count → r .output ≡ s .output
+    → right r answer bytes out ≡ right s answer bytes out
+unfolding right
+right-anywhere r s answer bytes out a n o = rw (a, n, o)
+
+-- ---- steps one after another
+
+pub played-none : (p : Played) → p ≡ playedAll p []
+unfolding playedAll
+played-none p = refl
+
+pub played-one : (p q : Played) (x : Step) → q ≡ played p x → q ≡ playedAll p (x ∷ [])
+unfolding playedAll
+played-one p q x e = e
+
+pub played-both : (p : Played) (l m : List Step) → playedAll (playedAll p l) m ≡ playedAll p (l ++ m)
+unfolding playedAll
+played-both p [] m = refl
+played-both p (x ∷ l) m = played-both (played p x) l m
+
+-- ---- cases
+
+all-append : (l m : List (List Step)) → allPass l ≡ true → allPass m ≡ true → allPass (l ++ m) ≡ true
+unfolding allPass
+all-append [] m a b = b
+all-append (k ∷ l) m a b =
+    let e = both (passes k) (allPass l) a in
+    and-intro (passes k) (allPass (l ++ m)) (e .0) (all-append l m (e .1) b)
+
+differs : (i k : ℕ) → (i ≡ k → ⊥) → i ≤ k → i < k
+differs i k n h = omega arith
+
+-- each of some cases passes that are numbered from i on
+pub case-passes : (f : ℕ → List Step) (i n : ℕ) → allPass (map f (count i n)) ≡ true → (k : ℕ) → i ≤ k → k < i + n → passes (f k) ≡ true
+unfolding allPass count
+case-passes f i zero e k h j = absurd (omega arith)
+case-passes f i (suc n) e k h j =
+    let b = both (passes (f i)) (allPass (map f (count (suc i) n))) e in
+    by-test (eqb i k) (λ q. ap (λ (z : ℕ). passes (f z)) (sym (eqb-true i k q)) ∙ b .0)
+    (λ q. case-passes f (suc i) n (b .1) k (omega (arith, differs i k (eqb-false i k q) h)) (omega arith))
+
+pub bench-pass : allPass benchCases ≡ true
+bench-pass = all-append starredCases limitCases (of-T (allPass starredCases) starred) (of-T (allPass limitCases) limits)

@@ -1,0 +1,161 @@
+-- The law of one call, for each call: each is refused, changes nothing, is followed by a sweep, or is a reset. Assumes nothing.
+use mathlib.Core.Path.{_≡_, refl, sym, ap, ap₂, _∙_}
+use mathlib.Core.Bool.{Bool, true, false, not, _&&_, _||_, false≢true, or-false}
+use mathlib.Core.List.{List, _∷_}
+use mathlib.Core.Option.{none}
+use Prim.Native.Nat.{ℕ, _/_, _%_, _<_}
+use lib.Dec.{eqb}
+use lib.ListN.{length}
+use borrow.Author.Tests.{not-true}
+use Rattle.words.proofs.BoolLaws.{both}
+use Rattle.words.specs.Bits.{bit}
+use Rattle.words.specs.Bytes.{byte, bytesOf}
+use Rattle.model.specs.declared.Mode.{Mode}
+use Rattle.model.specs.declared.Mode.the-variants.{Pin, Msi, Msix}
+use Rattle.model.specs.declared.Shape.{Shape}
+use Rattle.model.specs.declared.Answer.{Answer}
+use Rattle.model.specs.declared.Answer.the-variants.{Done, Refused}
+use Rattle.model.specs.Answers.{isAccepted}
+use Rattle.model.specs.Shape.{shapeOf}
+use Rattle.model.specs.Registers.{configWritten, barWritten}
+use Rattle.model.specs.World.{World, Endpoint, Registers, registers}
+use Rattle.model.specs.Vectors.{inForce, isOpen, waits, vectorOf, pendingBit}
+use Rattle.model.specs.Release.{raisedBy, settled, isPin}
+use Rattle.model.specs.Start.{Given, startRefusal}
+use Rattle.model.specs.Sound.{sound, shape}
+use Rattle.model.specs.Calls.{Call, configRead, configWrite, barRead, barWrite, event, line, reset, save, Outcome, changed, next, answerOf, step}
+use Rattle.model.specs.Trials.{wroteBytes}
+use Rattle.model.specs.History.{Entry, Location, Run, called, isReset, resets, puts, registersBy, openBy, meansBy, isEventFor, heldBy}
+use Rattle.model.proofs.Vectors.WaitingLaws.{OnlyWaiting, only-registers}
+use Rattle.model.proofs.Calls.CallLaws.{Passed, step-elim}
+use Rattle.model.proofs.Calls.AnswerLaws.{answer-accepted}
+use Rattle.model.proofs.Calls.Effects.{event-below}
+use Rattle.model.proofs.Vectors.RunningLaws.{event-range}
+use Rattle.model.proofs.Vectors.RaisedLaws.{raised-only, raised-waits}
+use Rattle.model.proofs.History.HistoryRegisters.{registers-other, registers-configWrite, registers-barWrite, refused-resets, refused-wrote, idle-resets, idle-wrote}
+use Rattle.model.proofs.History.HistoryCalls.{Good, entered, LawOf, open-same, refused-held, idle-held, soundness, shape-now, still, sweeps}
+use Rattle.model.proofs.History.HistoryReset.{resetting}
+
+-- ---- each call
+
+abbrev entryOf : Call → Answer → List ℕ → Entry
+entryOf c a bytes = record { call = c; answer = a; bytes = bytes }
+
+-- a call that leaves the waiting bits alone
+waits-kept : (m : Mode) (u u′ : Endpoint) (v : ℕ) → u′ .function .waiting ≡ u .function .waiting → u′ .pending ≡ u .pending → waits m u′ v ≡ waits m u v
+unfolding waits pendingBit
+waits-kept Pin u u′ v a b = refl
+waits-kept Msi u u′ v a b = ap (λ (x : ℕ). bit x v) a
+waits-kept Msix u u′ v a b = ap (λ (l : List ℕ). bit (byte l (v / 8)) (v % 8)) b
+
+reset-resets : (out bytes : List ℕ) → resets (entryOf (reset out) Done bytes) ≡ true
+unfolding resets isReset isAccepted
+reset-resets out bytes = refl
+
+module _ (g : Given) (ok : startRefusal g ≡ 0) (m : Mode) (v : ℕ) (r : Run) (i : Good g r) (bytes : List ℕ) where
+  abbrev w : World
+  w = r .world
+
+  abbrev u : Endpoint
+  u = r .world .endpoint
+
+  refuses : (c : Call) (a : Answer) → isAccepted a ≡ false → LawOf g m v r (entered r (entryOf c a bytes) (r .world))
+  refuses c a e =
+      still g ok m v r i (entryOf c a bytes) (refused-resets (entryOf c a bytes) e) (λ l. refused-wrote (shapeOf (g .config)) (entryOf c a bytes) l e)
+      (refused-held g m v (entryOf c a bytes) (r .past) e)
+
+  -- a read or a save
+  idles : (c : Call) (a : Answer) → isReset c ≡ false → ((l : Location) → puts (shapeOf (g .config)) c l ≡ none) → isEventFor g (r .past) m v c ≡ false
+      → LawOf g m v r (entered r (entryOf c a bytes) (r .world))
+  idles c a e p h =
+      still g ok m v r i (entryOf c a bytes) (idle-resets (entryOf c a bytes) e) (λ l. idle-wrote (shapeOf (g .config)) (entryOf c a bytes) l (p l))
+      (idle-held g m v (entryOf c a bytes) (r .past) h)
+
+  -- a write or a line call: no event
+  writes : (c : Call) (a : Answer) (u′ : Endpoint) → sound (settled (shape (r .world .endpoint)) u′) ≡ true → isReset c ≡ false
+      → isEventFor g (r .past) m v c ≡ false
+      → registers u′ ≡ registersBy g (entryOf c a bytes ∷ r .past) → length (u′ .pending) ≡ length (r .world .endpoint .pending)
+      → waits m u′ v ≡ waits m (r .world .endpoint) v
+      → LawOf g m v r (entered r (entryOf c a bytes) (settled (shape (r .world .endpoint)) u′))
+  writes c a u′ k e h regs n q =
+      let none : heldBy g m v (entryOf c a bytes) (r .past) ≡ false = idle-held g m v (entryOf c a bytes) (r .past) h in
+      sweeps g ok m v r i (entryOf c a bytes) u′ k (idle-resets (entryOf c a bytes) e) regs n
+      (q ∙ sym (or-false (waits m u v)) ∙ ap (λ (b : Bool). waits m u v || b) (sym none))
+      (λ t. absurd (false≢true (sym none ∙ t)))
+
+  -- an event: held exactly if it is for the vector and the vector is shut
+  held-now : (e : ℕ) (out : List ℕ) (a : Answer) → isAccepted a ≡ true
+      → (inForce m (shape u) (registers u) && eqb (vectorOf m (shape u) (registers u) e) v && not (isOpen m (shape u) (registers u) v))
+      ≡ heldBy g m v (entryOf (event e out) a bytes) (r .past)
+  unfolding heldBy isEventFor meansBy openBy
+  held-now e out a t =
+      ap₂ (λ (s : Shape) (q : Registers). inForce m s q && eqb (vectorOf m s q e) v && not (isOpen m s q v)) (shape-now g r i ok) (i .same)
+      ∙ ap (λ (b : Bool). b && meansBy g (r .past) m v e && not (openBy g (r .past) m v)) (sym t)
+
+  held-shut : (x : Entry) → heldBy g m v x (r .past) ≡ true → openBy g (r .past) m v ≡ false
+  unfolding heldBy
+  held-shut x h =
+      not-true (openBy g (r .past) m v)
+      (both (isAccepted (x .answer) && isEventFor g (r .past) m v (x .call)) (not (openBy g (r .past) m v)) h .1)
+
+  events : isPin m ≡ false → (e : ℕ) (out : List ℕ) → e < r .world .endpoint .function .events
+      → sound (settled (shape (r .world .endpoint)) (raisedBy (shape (r .world .endpoint)) (r .world .endpoint) e .endpoint)) ≡ true
+      → LawOf g m v r (entered r (entryOf (event e out) (raisedBy (shape (r .world .endpoint)) (r .world .endpoint) e .answer) bytes)
+      (settled (shape (r .world .endpoint)) (raisedBy (shape (r .world .endpoint)) (r .world .endpoint) e .endpoint)))
+  unfolding isReset puts answerOf
+  events p e out h k =
+      sweeps g ok m v r i x (raisedBy (shape u) u e .endpoint) k quiet (only-registers only ∙ i .same ∙ sym kept) (only .pendingLength)
+      (raised-waits m (shape u) u e v p (event-range u e (soundness g r i) h)
+      ∙ ap (λ (b : Bool). waits m u v || b) (held-now e out (raisedBy (shape u) u e .answer) (answer-accepted u (event e out))))
+      (λ t. open-same g m v (x ∷ r .past) (r .past) kept ∙ held-shut x t)
+    where
+      x : Entry
+      x = entryOf (event e out) (raisedBy (shape u) u e .answer) bytes
+
+      only : OnlyWaiting u (raisedBy (shape u) u e .endpoint)
+      only = raised-only (shape u) u e
+
+      quiet : resets x ≡ false
+      quiet = idle-resets x refl
+
+      kept : registersBy g (x ∷ r .past) ≡ registersBy g (r .past)
+      kept = registers-other g x (r .past) quiet (λ l. idle-wrote (shapeOf (g .config)) x l refl)
+
+  -- every accepted call
+  accepts-call : isPin m ≡ false → (c : Call) → Passed (r .world) c → sound (next (r .world) c) ≡ true
+      → LawOf g m v r (entered r (entryOf c (answerOf (r .world .endpoint) c) bytes) (next (r .world) c))
+  unfolding next changed answerOf isReset puts isEventFor isAccepted
+  accepts-call p (configRead o n) z k = idles (configRead o n) (answerOf u (configRead o n)) refl (λ l. refl) refl
+  accepts-call p (configWrite o n x out) z k =
+      writes (configWrite o n x out) Done (changed u (configWrite o n x out)) k refl refl
+      (ap₂ (λ (s : Shape) (q : Registers). configWritten s q o (bytesOf n x)) (shape-now g r i ok) (i .same)
+      ∙ registers-configWrite g (r .past) Done refl out bytes o n x)
+      refl (waits-kept m u (changed u (configWrite o n x out)) v refl refl)
+  accepts-call p (barRead b o n) z k = idles (barRead b o n) (answerOf u (barRead b o n)) refl (λ l. refl) refl
+  accepts-call p (barWrite b o n x out) z k =
+      writes (barWrite b o n x out) Done (changed u (barWrite b o n x out)) k refl refl
+      (ap₂ (λ (s : Shape) (q : Registers). barWritten s q b o (bytesOf n x)) (shape-now g r i ok) (i .same)
+      ∙ registers-barWrite g (r .past) Done refl out bytes b o n x)
+      refl (waits-kept m u (changed u (barWrite b o n x out)) v refl refl)
+  accepts-call p (event e out) z k = events p e out (event-below u e out (z .own)) k
+  accepts-call p (line level out) z k =
+      writes (line level out) Done (changed u (line level out)) k refl refl
+      (i .same ∙ sym (registers-other g x (r .past) (idle-resets x refl) (λ l. idle-wrote (shapeOf (g .config)) x l refl)))
+      refl (waits-kept m u (changed u (line level out)) v refl refl)
+    where
+      x : Entry
+      x = entryOf (line level out) Done bytes
+  accepts-call p (reset out) z k = resetting g ok m v r i x false k (reset-resets out bytes) (idle-held g m v x (r .past) refl)
+    where
+      x : Entry
+      x = entryOf (reset out) Done bytes
+  accepts-call p (save out) z k = idles (save out) (answerOf u (save out)) refl (λ l. refl) refl
+
+-- every call that leaves a sound card
+pub call-law : (g : Given) → startRefusal g ≡ 0 → (m : Mode) (v : ℕ) (r : Run) → Good g r → isPin m ≡ false → (c : Call)
+    → sound (step (r .world) c .world) ≡ true → LawOf g m v r (called r c)
+unfolding called isAccepted
+call-law g ok m v r i p c =
+    step-elim (r .world) c
+    (λ (o : Outcome). sound (o .world) ≡ true → LawOf g m v r (entered r (entryOf c (o .answer) (wroteBytes o)) (o .world)))
+    (λ z k. accepts-call g ok m v r i _ p c z k) (λ n _ _. refuses g ok m v r i _ c (Refused n) refl)

@@ -1,0 +1,3 @@
+-- Laws: an image and what it holds. Assumes nothing.
+pub mod ImageLaws
+pub mod ImageBack

@@ -1,0 +1,110 @@
+-- Three steps: byte 2, address with data, masks with Pending. Assumes nothing.
+use native.Mathlib.Omega.{arith}
+use denote.Ref.{now}
+use Rattle.words.specs.Bytes.{Bytes}
+use Rattle.registers.proofs.ClearLaws.{message-small, msi-steps}
+use borrow.Author.Needs.{needs}
+use Rattle.registers.proofs.start.clear_msi.Statement.{statement}
+use Rattle.registers.proofs.start.clear_msi.Tie as tie
+
+-- byte 2 is fixed
+module _ (c : tie.After-fix-part) where
+  abbrev at-part-end : tie.After-part-end
+  at-part-end = c .before .before
+
+  abbrev known : tie.After-slice-known
+  known = at-part-end .before .before
+
+  abbrev start : tie.Start
+  start = known .before
+
+  bytes : Bytes (now (start .args .config))
+  bytes i = known .slice-known .given i .fits
+
+-- address and data are 0
+module _ (c : tie.After-zero-part) where
+  abbrev at-part-end3 : tie.After-part-end3
+  at-part-end3 = c .before .before .before
+
+  abbrev fixed : tie.After-fix-part
+  fixed = let known2 = at-part-end3 .before .before in known2 .before .before
+
+part-end-requires : tie.Need-part-end-requires
+part-end-requires c κs = search needs
+
+part-end-requires-2 : tie.Need-part-end-requires-2
+part-end-requires-2 c κs = search needs
+
+fix-part-requires : tie.Need-fix-part-requires
+fix-part-requires c κs = search needs
+
+part-end-requires-3 : tie.Need-part-end-requires-3
+part-end-requires-3 c κs = search needs
+
+add-part-end : tie.Need-add-part-end
+add-part-end c =
+    let known2 = c .before .before .before in
+    let begin = start (known2 .before .before) in
+    omega (arith, message-small (begin .args .s) (begin .args .f) (begin .pre .3))
+
+part-end-requires-4 : tie.Need-part-end-requires-4
+part-end-requires-4 c κs = search needs
+
+zero-part-requires : tie.Need-zero-part-requires
+zero-part-requires c κs = search needs
+
+add-part-end-2 : tie.Need-add-part-end-2
+add-part-end-2 c =
+    let known3 = c .before .before in
+    let begin = start (fixed (known3 .before .before)) in
+    omega (arith, message-small (begin .args .s) (begin .args .f) (begin .pre .3))
+
+part-end-requires-5 : tie.Need-part-end-requires-5
+part-end-requires-5 c κs = search needs
+
+part-end-requires-6 : tie.Need-part-end-requires-6
+part-end-requires-6 c κs = search needs
+
+zero-part-requires-2 : tie.Need-zero-part-requires-2
+zero-part-requires-2 c κs = search needs
+
+same-length : tie.Need-same-length
+same-length c = search needs
+
+returns : tie.Need-returns
+returns c =
+    let at-zero-part2 = c .before .before in
+    let at-part-end6 = at-zero-part2 .before in
+    let at-part-end5 = at-part-end6 .before in
+    let known3 = at-part-end5 .before .before .before in
+    let at-zero-part = known3 .before .before in
+    let at-fix-part = fixed at-zero-part in
+    let begin = start at-fix-part in
+    msi-steps (begin .args .s) (begin .args .f) (begin .pre .3) (begin .pre .1) _ _ _ _ _ _
+    (at-part-end at-fix-part .part-end .ensures)
+    (at-fix-part .before .part-end2 .ensures)
+    (at-part-end3 at-zero-part .part-end3 .ensures)
+    (at-zero-part .before .part-end4 .ensures)
+    (at-part-end5 .part-end5 .ensures)
+    (at-part-end6 .part-end6 .ensures) _ _ _ (at-zero-part2 .zero-part2 .last .0) (bytes at-fix-part)
+    (at-fix-part .fix-part .ensures)
+    (at-zero-part .zero-part .ensures)
+    (at-zero-part2 .zero-part2 .ensures)
+
+pub clear-msi-spec : {M : Type 1} → statement M
+clear-msi-spec =
+    tie.close
+    (tie.spec
+    part-end-requires
+    part-end-requires-2
+    fix-part-requires
+    part-end-requires-3
+    add-part-end
+    part-end-requires-4
+    zero-part-requires
+    add-part-end-2
+    part-end-requires-5
+    part-end-requires-6
+    zero-part-requires-2
+    same-length
+    returns)
