@@ -6,8 +6,14 @@ use Rattle.model.specs.declared.Answer.{Answer}
 use Rattle.model.specs.declared.Answer.the-variants.{Refused}
 use Rattle.model.specs.declared.Card.{Card}
 use Rattle.model.specs.World.{worldOf, zeroFunction}
+use Rattle.model.specs.Answers.{kindOf, detailOf}
 use Rattle.model.specs.Calls as Calls
+use Rattle.card.specs.declared.answer.Code.{Code}
 use Rattle.card.specs.declared.outcome.Outcome.{Outcome}
+
+-- an answer's kind and number
+abbrev pub codeOf : Answer → Code
+codeOf a = record { kind = kindOf a; detail = detailOf a }
 
 abbrev pub refusedWith : Card → ℕ → Outcome
 refusedWith card n = record { card = card; answer = Refused n; count = 0 }

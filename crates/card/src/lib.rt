@@ -1,4 +1,5 @@
-// What the calls share: outcomes, soundness, a changed function, and what follows a change.
+// What the calls share: answers, outcomes, soundness, a changed function, and what follows a change.
+pub mod answer;
 pub mod changed;
 pub mod outcome;
 pub mod settle;

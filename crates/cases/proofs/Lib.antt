@@ -1,3 +1,1 @@
-mod BufferLaws
-mod MatchLaws
 mod RunLaws

@@ -40,6 +40,7 @@ rowOf l =
       d = decimal2 l 32;
       place = hex4 l 35;
       size = decimal3 l 40;
+      shown = byte l 44;
     }
 
 -- the answer by its letter: s, h, m, l, v, r, or d

@@ -9,7 +9,7 @@ use Rattle.words.specs.Bytes.{byte}
 use Rattle.words.specs.Lists.{count}
 use Rattle.words.specs.Writers.{putAt}
 use Rattle.model.specs.Calls as Calls
-use Rattle.model.specs.Play.{Step, lends, does, keeps, compares, fresh}
+use Rattle.model.specs.Play.{Step, lends, does, fresh}
 use Rattle.model.specs.Cases.{sizesOf, benchCases}
 use Rattle.cases.specs.declared.row.Row.{Row}
 use Rattle.cases.specs.declared.table.Table.{Table}
@@ -25,29 +25,25 @@ configAt bytes at =
     putAt 0x40 (bytesAt bytes (at + 3) 12)
     (set (set (set (replicate 256 0) 0x06 (byte bytes at)) 0x34 (byte bytes (at + 1))) 0x3d (byte bytes (at + 2)))
 
--- ---- calls by their letter: s, w, W, z and e; r, R, l and i change no buffer
-
-unfoldable pub askedBy : ℕ → Row → (out : List ℕ) → Calls.Call
-askedBy letter r out =
-    cond (eqb letter 114) (Calls.configRead (r .a) (r .b % 256))
-    (cond (eqb letter 82) (Calls.barRead 0 (r .a) (r .b % 256))
-    (cond (eqb letter 108) (Calls.line (not (eqb (r .b) 0)) out) (Calls.save out)))
+-- ---- calls by their letter: s, r, R, w, W, l, e, or a save
 
 unfoldable pub operationBy : ℕ → List ℕ → Row → (out : List ℕ) → Calls.Operation
 operationBy letter bytes r out =
     cond (eqb letter 115) (Calls.start (configAt bytes (r .place)) (sizesOf (r .c) (r .a)) (r .b) 0x100)
-    (cond (eqb letter 119) (Calls.call (Calls.configWrite (r .a) (r .b % 256) (r .c) out))
-    (cond (eqb letter 87) (Calls.call (Calls.barWrite 0 (r .a) (r .b % 256) (r .c) out))
-    (cond (eqb letter 122) (Calls.call (Calls.reset out))
-    (cond (eqb letter 101) (Calls.call (Calls.event (r .a) out)) (Calls.call (askedBy letter r out))))))
+    (Calls.call
+    (cond (eqb letter 114) (Calls.configRead (r .a) (r .b % 256))
+    (cond (eqb letter 82) (Calls.barRead 0 (r .a) (r .b % 256))
+    (cond (eqb letter 119) (Calls.configWrite (r .a) (r .b % 256) (r .c) out)
+    (cond (eqb letter 87) (Calls.barWrite 0 (r .a) (r .b % 256) (r .c) out)
+    (cond (eqb letter 108) (Calls.line (not (eqb (r .b) 0)) out)
+    (cond (eqb letter 101) (Calls.event (r .a) out) (Calls.save out))))))))
 
 -- the length of the output that a call is lent
 unfoldable pub roomBy : ℕ → Row → ℕ
 roomBy letter r =
     cond (eqb letter 115) 0
     (cond (eqb letter 114) 0
-    (cond (eqb letter 82) 0
-    (cond (eqb letter 119) 64 (cond (eqb letter 87) 64 (cond (eqb letter 108) 64 (cond (eqb letter 122) 64 (r .b)))))))
+    (cond (eqb letter 82) 0 (cond (eqb letter 119) 64 (cond (eqb letter 87) 64 (cond (eqb letter 108) 64 (r .b))))))
 
 abbrev pub operationOver : List ℕ → Row → (out : List ℕ) → Calls.Operation
 operationOver bytes r out = operationBy (r .kind) bytes r out
@@ -58,33 +54,25 @@ roomOf r = roomBy (r .kind) r
 abbrev pub operationOf : List ℕ → Row → Calls.Operation
 operationOf bytes r = operationOver bytes r (take (roomOf r) (fresh 300))
 
--- ---- steps by their letter
+-- ---- steps
 
--- t, p and j only print; n, k, c, or a call. The program's buffers serve ten vectors
-unfoldable pub stepsBy : ℕ → List ℕ → Row → List Step
-stepsBy letter bytes r =
-    cond (eqb letter 116) []
-    (cond (eqb letter 112) []
-    (cond (eqb letter 106) []
-    (cond (eqb letter 110) (lends (min (r .b) 10) ∷ [])
-    (cond (eqb letter 107) (keeps ∷ [])
-    (cond (eqb letter 99) (compares ∷ []) (does (operationOf bytes r) (bytesAt bytes (r .place) (r .size)) (answerOf r) ∷ []))))))
+-- n lends new buffers, and the program's serve ten vectors; any other letter is a call
+unfoldable pub stepOf : List ℕ → Row → Step
+stepOf bytes r =
+    cond (eqb (r .kind) 110) (lends (min (r .b) 10)) (does (operationOf bytes r) (bytesAt bytes (r .place) (r .size)) (answerOf r))
 
-abbrev pub stepsOf : List ℕ → Row → List Step
-stepsOf bytes r = stepsBy (r .kind) bytes r
-
--- the steps of a row that belongs to case n
+-- the step of a row that belongs to case n
 unfoldable pub rowSteps : ℕ → List ℕ → Row → List Step
-rowSteps n bytes r = cond (eqb (r .number) n) (stepsOf bytes r) []
+rowSteps n bytes r = cond (eqb (r .number) n) (stepOf bytes r ∷ []) []
 
--- the steps of case n in k rows of 43 characters
+-- the steps of case n in k rows of 45 characters
 unfoldable pub caseSteps : ℕ → List ℕ → (k : ℕ) → List ℕ → List Step
 caseSteps n bytes zero l = []
-caseSteps n bytes (suc k) l = rowSteps n bytes (rowOf (take 43 l)) ++ caseSteps n bytes k (drop 43 l)
+caseSteps n bytes (suc k) l = rowSteps n bytes (rowOf (take 45 l)) ++ caseSteps n bytes k (drop 45 l)
 
 -- how many rows and cases the table has
 abbrev pub rowCount : ℕ
-rowCount = 150
+rowCount = 117
 
 abbrev pub caseCount : ℕ
 caseCount = 13

@@ -4,16 +4,16 @@ ghost use mathlib.Core.List.{[]};
 ghost use Prim.Native.Nat.{_≤_};
 ghost use lib.ListN.{length};
 ghost use Rattle.model.specs.World.{worldOf, endpointOf, zeroFunction};
-ghost use Rattle.model.specs.Calls.{operate, step, startOf, startGiven};
+ghost use Rattle.model.specs.Calls.{operate, startOf, startGiven};
 ghost use Rattle.model.specs.Cases.{sizesOf};
 ghost use Rattle.card.specs.Outcomes.{after};
-ghost use Rattle.cases.specs.Steps.{configAt, askedBy, operationOver, roomOf};
+ghost use Rattle.cases.specs.Steps.{configAt, operationOver, roomOf};
 ghost use Rattle.cases.specs.Runs.{Calls};
-use crate::buffers::within;
 use crate::row::Row;
 use crate::run::Run;
 use card::outcome::Outcome;
 use model::Card;
+use words::parts::clipped;
 
 // The requester ID of every case.
 const REQUESTER: u16 = 0x0100;
@@ -30,24 +30,7 @@ fn room(row: Row) -> usize
         b'w' => 64,
         b'W' => 64,
         b'l' => 64,
-        b'z' => 64,
         _ => row.b as usize,
-    }
-}
-
-// A row's call that changes neither buffer.
-fn ask(card: Card, row: Row, table: &[u8], pending: &[u8], out: &mut [u8]) -> Outcome
-    requires { ⌜ length (now out) ≤ roomOf row ⌝ }
-    ensures { λ r. ⌜ after r (now (table .entry)) (now (pending .entry)) (now (out .exit))
-        ≡ step (worldOf card (now (table .entry)) (now (pending .entry))) (askedBy (row .kind) row (now (out .entry))) ⌝ }
-{
-    let letter = row.kind;
-    let width = (row.b % 256) as u8;
-    match letter {
-        b'r' => config_access::config_read::config_read(card, table, pending, row.a, width),
-        b'R' => bar_access::bar_read::bar_read(card, table, pending, 0, row.a as u32, width),
-        b'l' => interrupt::line::line(card, table, pending, row.b != 0, out),
-        _ => snapshot::save::save(card, table, pending, out),
     }
 }
 
@@ -79,6 +62,8 @@ fn perform(
     let width = (row.b % 256) as u8;
     match letter {
         b's' => start(row, bytes, table, pending),
+        b'r' => config_access::config_read::config_read(card, table, pending, row.a, width),
+        b'R' => bar_access::bar_read::bar_read(card, table, pending, 0, row.a as u32, width),
         b'w' => config_access::config_write::config_write(
             card,
             table,
@@ -98,9 +83,9 @@ fn perform(
             row.c as u64,
             out,
         ),
-        b'z' => lifecycle::reset::reset(card, table, pending, out),
+        b'l' => interrupt::line::line(card, table, pending, row.b != 0, out),
         b'e' => interrupt::event::event(card, table, pending, row.a, out),
-        _ => ask(card, row, table, pending, out),
+        _ => snapshot::save::save(card, table, pending, out),
     }
 }
 
@@ -112,7 +97,7 @@ pub struct Called {
     pub room: usize,
 }
 
-// A row's call on the run's card.
+// A row's call on the run's card, over the parts of the buffers that it is lent: 16N bytes, and 8 x (N/64 rounded up) bytes.
 pub fn call(run: Run, row: Row, bytes: &[u8]) -> Called
     ensures { λ r. ⌜ Calls run (now (bytes .entry)) row r ⌝ }
 {
@@ -120,9 +105,10 @@ pub fn call(run: Run, row: Row, bytes: &[u8]) -> Called
     let mut table = run.table;
     let mut pending = run.pending;
     let mut out = [0xee; 300];
-    let t = crate::buffers::table_length(run.vectors, &table);
-    let p = crate::buffers::pending_length(run.vectors, &pending);
-    let n = within(room(row), &out);
+    let vectors = run.vectors as usize;
+    let t = clipped(16 * vectors, &table);
+    let p = clipped(8 * ((vectors + 63) / 64), &pending);
+    let n = clipped(room(row), &out);
     let outcome = perform(
         card,
         row,

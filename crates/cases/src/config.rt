@@ -1,18 +1,8 @@
 // The 256 configuration bytes that a case starts with.
 ghost use mathlib.Core.Path.{_≡_};
-ghost use Rattle.words.specs.Bytes.{byte};
 ghost use Rattle.cases.specs.Steps.{configAt};
-use crate::buffers::part;
-
-// The byte at a place, 0 past the end.
-fn byte_at(s: &[u8], at: usize) -> u8
-    ensures { λ r. ⌜ r ≡ byte (now (s .entry)) at ⌝ }
-{
-    if at < s.len() {
-        return s[at];
-    }
-    0
-}
+use words::parts::byte_at;
+use words::parts::part;
 
 // The configuration at a place of the table's bytes.
 pub fn config_at(bytes: &[u8], place: u16) -> [u8; 256]

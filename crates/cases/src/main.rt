@@ -3,7 +3,6 @@
 ghost use mathlib.Core.Path.{_≡_};
 ghost use Prim.Native.Nat.{_≤_};
 ghost use lib.ListN.{length};
-ghost use Rattle.io.specs.Counts.{Counts};
 ghost use Rattle.cases.specs.Steps.{caseCount};
 use crate::row::Row;
 use crate::run::Run;
@@ -12,9 +11,8 @@ use model::Answer;
 use tlp::decode::Level;
 use tlp::decode::Message;
 use tlp::decode::Packet;
+use words::parts::part;
 
-mod answer;
-mod buffers;
 mod calls;
 mod config;
 mod play;
@@ -114,30 +112,13 @@ fn print_packet(s: &[u8]) {
     }
 }
 
-// How many bytes the first packet has: 20 where its first byte is 60h, else 16, and at most all.
-fn packet_length(s: &[u8]) -> usize
-    requires { ⌜ 1 ≤ length (now s) ⌝ }
-    ensures { λ r. ⌜ (1 ≤ r) × Counts r (now (s .entry)) ⌝ }
-{
-    if s[0] == 0x60 {
-        if 20 <= s.len() {
-            return 20;
-        }
-        return s.len();
-    }
-    if 16 <= s.len() {
-        return 16;
-    }
-    s.len()
-}
-
 // Packets that stand one after another.
 fn print_packets(s: &[u8]) {
     let mut at = 0;
     while at < s.len() {
         let rest = &s[at..];
-        let n = packet_length(rest);
-        print_packet(&rest[..n]);
+        let n = tlp::decode::first_length(rest);
+        print_packet(part(rest, 0, n));
         at += n;
     }
 }
@@ -264,7 +245,6 @@ fn print_call(row: Row, bytes: &[u8]) {
         } else {
             text(b"  line low: ")
         },
-        b'z' => text(b"  reset: "),
         _ => {
             text(b"  save, output of ");
             decimal(row.b as u64);
@@ -290,27 +270,14 @@ fn zeros(s: &[u8]) -> usize
 
 // The first ten bytes of an image, and how many of the others are 0.
 fn print_image(image: &[u8]) {
-    let n = buffers::within(10, image);
-    let rest = &image[n..];
+    let rest = part(image, 10, image.len());
     text(b"    ");
-    bytes(&image[..n]);
+    bytes(part(image, 0, 10));
     text(b"\n    then ");
     decimal(rest.len() as u64);
     text(b" bytes, of which ");
     decimal(zeros(rest) as u64);
     text(b" are 0\n");
-}
-
-// The end of a call's line, and its packets or image. A value is shown with as many bytes as were read.
-fn print_output(row: Row, o: Outcome, out: &[u8]) {
-    let answer = o.answer;
-    print_answer(answer, (row.b % 256) as u8);
-    let n = buffers::within(o.count, out);
-    if row.kind == b'i' {
-        print_image(&out[..n]);
-    } else {
-        print_packets(&out[..n]);
-    }
 }
 
 fn print_comparison(same: bool) {
@@ -319,11 +286,38 @@ fn print_comparison(same: bool) {
     } else {
         text(b"  the two images differ\n");
     }
-    verdict(same);
+}
+
+// Whether a call should do more than prepare the case: that is, answer anything but done, or send.
+fn is_result(row: Row) -> bool {
+    (row.kind != b'k') & ((row.size != 0) | (row.answer != b'd') | (row.shown == b'v'))
+}
+
+// The end of a call's line, its packets or image, and whether it gave what it should. A value is shown with as many bytes as were read.
+fn print_result(row: Row, o: Outcome, out: &[u8], good: bool) {
+    let answer = o.answer;
+    print_answer(answer, (row.b % 256) as u8);
+    let sent = part(out, 0, o.count);
+    let letter = row.kind;
+    match letter {
+        b'i' => print_image(sent),
+        b'c' => print_comparison(good),
+        b'k' => {}
+        _ => print_packets(sent),
+    }
+    if !good | is_result(row) {
+        verdict(good);
+    }
+}
+
+fn print_after(row: Row, run: Run) {
+    if row.shown != b'-' {
+        print_state(run);
+    }
 }
 
 fn print_title(row: Row, bytes: &[u8]) {
-    text(buffers::part(bytes, row.place as usize, row.size as usize));
+    text(part(bytes, row.place as usize, row.size as usize));
 }
 
 // 1 for a case that is as document 01 says.

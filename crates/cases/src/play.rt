@@ -2,31 +2,20 @@
 ghost use mathlib.Core.Path.{_≡_};
 ghost use mathlib.Core.Bool.{true};
 ghost use Prim.Native.Nat.{_≤_};
-ghost use Rattle.model.specs.Play.{played, playedAll, keeps, compares};
+ghost use Rattle.model.specs.Play.{played, playedAll};
 ghost use Rattle.model.specs.Play as Play;
 ghost use Rattle.cases.specs.Rows.{answerOf};
-ghost use Rattle.cases.specs.Steps.{bytesAt, operationOf, stepsOf, rowSteps, caseCount};
-ghost use Rattle.cases.specs.Runs.{seen, Saves};
-use crate::buffers::first;
-use crate::buffers::part;
-use crate::calls::Called;
+ghost use Rattle.cases.specs.Steps.{bytesAt, operationOf, stepOf, rowSteps, caseCount};
+ghost use Rattle.cases.specs.Runs.{seen};
 use crate::row::Row;
 use crate::run::Run;
 use crate::run::judge;
 use crate::table::ROW_COUNT;
-use crate::verdict;
-use model::Answer;
+use card::answer::same_answer;
+use words::parts::part;
 
 // What an output holds before a call.
 const FRESH: [u8; 300] = [0xee; 300];
-
-// Whether a call should do more than prepare the case: that is, answer anything but done, or send.
-fn is_result(answer: Answer, bytes: &[u8]) -> bool {
-    if bytes.len() != 0 {
-        return true;
-    }
-    !crate::answer::same_answer(answer, Answer::Done)
-}
 
 // A row's call, printed, and compared with what it should give.
 fn play_call(run: Run, row: Row, bytes: &[u8]) -> Run
@@ -35,91 +24,31 @@ fn play_call(run: Run, row: Row, bytes: &[u8]) -> Run
     crate::print_call(row, bytes);
     let called = crate::calls::call(run, row, bytes);
     let o = called.outcome;
+    let given = o.answer;
     let out = called.out;
     let n = called.room;
-    let sent = first(&out, n);
-    crate::print_output(row, o, sent);
+    let sent = part(&out, 0, n);
     let answer = crate::row::answer_of(row);
     let expected = part(bytes, row.place as usize, row.size as usize);
-    let good = crate::answer::matches(o, sent, first(&FRESH, n), answer, expected);
-    if !good | is_result(answer, expected) {
-        verdict(good);
-    }
-    let after = called.run;
-    judge(after, good)
-}
-
-// A save of the card over 294 bytes.
-fn save_image(run: Run, bytes: &[u8]) -> Called
-    ensures { λ r. ⌜ Saves run r ⌝ }
-{
-    let row = Row {
-        number: 0,
-        kind: b'i',
-        a: 0,
-        b: 294,
-        c: 0,
-        answer: b'd',
-        d: 0,
-        place: 0,
-        size: 0,
-    };
-    crate::print_call(row, bytes);
-    let called = crate::calls::call(run, row, bytes);
-    let o = called.outcome;
-    let answer = o.answer;
-    crate::print_answer(answer, 8);
-    called
-}
-
-// The image is kept.
-fn keep(run: Run, bytes: &[u8]) -> Run
-    ensures { λ r. ⌜ seen r ≡ played (seen run) keeps ⌝ }
-{
-    let called = save_image(run, bytes);
-    let mut after = called.run;
-    let image = called.out;
-    after.image = image;
-    judge(after, called.outcome.count == 294)
-}
-
-// Whether the image is the one that was kept.
-fn compare(run: Run, bytes: &[u8]) -> Run
-    ensures { λ r. ⌜ seen r ≡ played (seen run) compares ⌝ }
-{
-    let called = save_image(run, bytes);
-    let after = called.run;
-    let image = called.out;
-    let kept = run.image;
-    let good = (called.outcome.count == 294)
-        & words::compare::same(first(&image, 294), first(&kept, 294));
-    crate::print_comparison(good);
-    judge(after, good)
+    let good = same_answer(given, answer)
+        & (o.count == expected.len())
+        & words::compare::is_over(sent, expected, part(&FRESH, 0, n));
+    crate::print_result(row, o, sent, good);
+    let next = called.run;
+    let after = judge(next, good);
+    crate::print_after(row, after);
+    after
 }
 
 // One step.
 fn play(run: Run, row: Row, bytes: &[u8]) -> Run
-    ensures { λ r. ⌜ seen r ≡ playedAll (seen run) (stepsOf (now (bytes .entry)) row) ⌝ }
+    ensures { λ r. ⌜ seen r ≡ played (seen run) (stepOf (now (bytes .entry)) row) ⌝ }
 {
-    let letter = row.kind;
-    match letter {
-        b't' => {
-            crate::print_title(row, bytes);
-            run
-        }
-        b'p' => {
-            crate::print_state(run);
-            run
-        }
-        b'j' => {
-            verdict(run.good);
-            run
-        }
-        b'n' => crate::run::lend(run, row.b),
-        b'k' => keep(run, bytes),
-        b'c' => compare(run, bytes),
-        _ => play_call(run, row, bytes),
+    if row.kind == b'n' {
+        crate::print_title(row, bytes);
+        return crate::run::lend(run, row.b);
     }
+    play_call(run, row, bytes)
 }
 
 // One step, if it belongs to the case.

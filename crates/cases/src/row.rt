@@ -4,9 +4,9 @@ ghost use Prim.Native.Nat.{_+_, _*_, _≤_, _<_};
 ghost use lib.ListN.{length, take, drop};
 ghost use Rattle.cases.specs.Rows.{digitOf, decimal2, decimal3, hex2, hex4, hex8, rowOf, answerOf};
 ghost use Rattle.cases.specs.Steps.{rowCount};
-use crate::buffers::part;
 use crate::table::ROW_COUNT;
 use model::Answer;
+use words::parts::part;
 
 // What `table.rt` says of the columns.
 pub struct Row {
@@ -19,6 +19,7 @@ pub struct Row {
     pub d: u8,
     pub place: u16,
     pub size: u16,
+    pub shown: u8,
 }
 
 // A hexadecimal digit; below the digits 0.
@@ -73,7 +74,7 @@ fn hex8(s: &[u8], at: usize) -> u32
 
 // The row that a slice starts with.
 fn row_of(s: &[u8]) -> Row
-    requires { ⌜ 43 ≤ length (now s) ⌝ }
+    requires { ⌜ 45 ≤ length (now s) ⌝ }
     ensures { λ r. ⌜ r ≡ rowOf (now (s .entry)) ⌝ }
 {
     Row {
@@ -86,15 +87,16 @@ fn row_of(s: &[u8]) -> Row
         d: decimal2(s, 32),
         place: hex4(s, 35),
         size: decimal3(s, 40),
+        shown: s[44],
     }
 }
 
 // Row i of the table.
-pub fn row_at(rows: &[u8; 43 * ROW_COUNT], i: usize) -> Row
+pub fn row_at(rows: &[u8; 45 * ROW_COUNT], i: usize) -> Row
     requires { ⌜ i < rowCount ⌝ }
-    ensures { λ r. ⌜ r ≡ rowOf (take 43 (drop (43 * i) (now (rows .entry)))) ⌝ }
+    ensures { λ r. ⌜ r ≡ rowOf (take 45 (drop (45 * i) (now (rows .entry)))) ⌝ }
 {
-    row_of(part(rows, 43 * i, 43))
+    row_of(part(rows, 45 * i, 45))
 }
 
 // The answer that a row's call should give.

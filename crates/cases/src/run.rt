@@ -6,14 +6,12 @@ ghost use Rattle.cases.specs.Runs.{seen, judged};
 use model::Card;
 use model::Function;
 
-// The card, N, the table and pending array in buffers that serve every case, the image that was kept, and whether every call so
-// far gave what it should.
+// The card, N, the table and pending array in buffers that serve every case, and whether every call so far gave what it should.
 pub struct Run {
     pub card: Card,
     pub vectors: u8,
     pub table: [u8; 160],
     pub pending: [u8; 8],
-    pub image: [u8; 300],
     pub good: bool,
 }
 
@@ -38,7 +36,6 @@ pub fn new() -> Run
         vectors: 0,
         table: [0xee; 160],
         pending: [0xee; 8],
-        image: [0xee; 300],
         good: true,
     }
 }

@@ -4,6 +4,7 @@ use Rattle.words.specs.Lists
 use Rattle.words.specs.Bits
 use Rattle.words.specs.Bytes
 use Rattle.model.specs.World
+use Rattle.model.specs.Answers
 use Rattle.model.specs.Capabilities
 use Rattle.model.specs.Shape
 use Rattle.model.specs.Registers
@@ -38,7 +39,7 @@ unfolding
     Image.mark Image.flags Image.cardBytes Image.imageOf Image.functionFrom Image.worldIn Image.isSaved Image.restoreRefusal
     Calls.isSave Calls.badConfig Calls.badBar Calls.noMemory Calls.rows Calls.changed Calls.next Calls.sends Calls.answerOf Calls.answered Calls.ifRoom Calls.performed
     Calls.step Calls.startOf Calls.restoreOf
-    Play.sameAnswer Play.right Play.played Play.playedAll Play.passes Play.allPass
+    Answers.sameAnswer Play.right Play.played Play.playedAll Play.passes Play.allPass
     Cases.temptingCases
 computed = (tt, tt, tt)
 

@@ -1,6 +1,7 @@
 -- Each case of an answer in document 01's numbers. Assumes nothing.
-use mathlib.Core.Bool.{Bool, true, false}
+use mathlib.Core.Bool.{Bool, true, false, _&&_}
 use Prim.Native.Nat.{ℕ}
+use lib.Dec.{eqb}
 use Rattle.model.specs.declared.Answer.{Answer}
 use Rattle.model.specs.declared.Answer.the-variants.{Refused, Done, Value, Sent, Held, Merged, Lost}
 
@@ -42,3 +43,27 @@ eventCode Sent = 1
 eventCode Held = 2
 eventCode Merged = 3
 eventCode Lost = 4
+
+-- a number for each kind of answer
+abbrev pub kindOf : Answer → ℕ
+kindOf (Refused n) = 0
+kindOf Done = 1
+kindOf (Value x) = 2
+kindOf Sent = 3
+kindOf Held = 4
+kindOf Merged = 5
+kindOf Lost = 6
+
+-- the number of a refusal, the value of a read
+abbrev pub detailOf : Answer → ℕ
+detailOf (Refused n) = n
+detailOf Done = 0
+detailOf (Value x) = x
+detailOf Sent = 0
+detailOf Held = 0
+detailOf Merged = 0
+detailOf Lost = 0
+
+-- two answers are the same
+unfoldable pub sameAnswer : Answer → Answer → Bool
+sameAnswer a b = eqb (kindOf a) (kindOf b) && eqb (detailOf a) (detailOf b)

@@ -7,7 +7,7 @@ use Rattle.words.specs.Bytes.{bytesOf}
 use Rattle.model.specs.declared.Answer.{Answer}
 use Rattle.model.specs.declared.Answer.the-variants.{Refused, Done, Value, Sent, Held, Merged}
 use Rattle.model.specs.Calls.{call, start, configRead, configWrite, barRead, barWrite, event, line, reset, save}
-use Rattle.model.specs.Play.{Step, lends, does, keeps, compares, fresh}
+use Rattle.model.specs.Play.{Step, lends, does, fresh}
 
 -- ---- configurations
 
@@ -180,12 +180,18 @@ starredCases =
 
 -- ---- cases 12 and 13
 
--- event E - 1 and event E; then the card of case 1 with outputs of 15 and 16 bytes, and its images before and after the first
+-- the image of case 1's card before its event: E = 4, requester 0100h, nothing waiting, BARs of no size, and the registers as written
+abbrev pub imageBefore : List ℕ
+imageBefore =
+    0x49 ∷ 0x52 ∷ 0x51 ∷ 1 ∷ 0 ∷ 0 ∷ 4 ∷ 0 ∷ 0 ∷ 1 ∷ replicate 28 0
+    ++ put 0x48 (bytesOf 2 0x49a0) (put 0x44 (bytesOf 4 0xfee00000) (put 0x42 (0x27 ∷ []) (put 0x04 (0x04 ∷ []) msiCard)))
+
+-- event E - 1 and event E; then the card of case 1 with outputs of 15 and 16 bytes, and its image before and after the first
 abbrev pub case12 : List Step
 case12 =
     msiCase 8 0x49a0 2 (raises 7 40 Sent (message32 0xa3 0x49) ∷ raises 8 40 (Refused 2) [] ∷ [])
     ++ msiCase 4 0x49a0 2
-    (keeps ∷ raises 1 15 (Refused 6) [] ∷ compares ∷ raises 1 16 Sent (message32 0xa1 0x49) ∷ [])
+    (saves 294 imageBefore ∷ raises 1 15 (Refused 6) [] ∷ saves 294 imageBefore ∷ raises 1 16 Sent (message32 0xa1 0x49) ∷ [])
 
 -- a table of 64 bytes from 40h of BAR 0 on, and a pending array that fills BAR 1
 abbrev pub tableEnds : (size : ℕ) → Answer → List Step

@@ -2,8 +2,10 @@
 use mathlib.Core.Path.{_≡_, sym, ap, _∙_}
 use mathlib.Core.Bool.{Bool, true, false}
 use mathlib.Core.List.{List}
-use Prim.Native.Nat.{ℕ, _-_, _≤_, _<_}
-use lib.ListN.{length, take}
+use Prim.Native.Nat.{ℕ, _+_, _-_, _≤_, _<_}
+use native.Mathlib.Omega.{arith}
+use lib.Dec.{eqb}
+use lib.ListN.{length, take, drop, length-take, length-drop}
 use borrow.Author.Tests.{lt-ltb, le-ltb, eq-eqb, ne-eqb}
 use Rattle.words.specs.Lists.{same}
 use Rattle.words.specs.Bytes.{byte, word32, high16, high32}
@@ -13,8 +15,9 @@ use Rattle.tlp.specs.declared.decode.Message as Fields
 use Rattle.tlp.specs.declared.decode.Level.{Level}
 use Rattle.tlp.specs.declared.decode.Packet.{Packet}
 use Rattle.tlp.specs.declared.decode.Packet.the-variants.{Message, Wire, Other}
-use Rattle.tlp.specs.Decoded.{asMessage, asWire, decodedWire, decoded}
+use Rattle.tlp.specs.Decoded.{asMessage, asWire, decodedWire, decoded, firstLength}
 use Rattle.words.proofs.Writers.{wrote-front}
+use Rattle.words.proofs.BoolLaws.{by-test}
 
 -- ---- the bytes that a writer makes of the fields, compared
 
@@ -87,3 +90,17 @@ module _ (l : List ℕ) where
       by-long h upper address value eu ea ev q =
           rw (le-ltb (length l) 16 a, ne-eqb (byte l 0) 0x34 b, le-ltb (length l) 20 h)
           (q ∙ (λ i. asMessage l (record { requester = e i; upper = eu i; address = ea i; value = ev i })))
+
+-- ---- packets one after another
+
+some-bytes : (l : List ℕ) → 1 ≤ length l → (1 ≤ firstLength l) × (firstLength l ≤ length l)
+unfolding firstLength
+some-bytes l h = by-test (eqb (byte l 0) 0x60) (λ q. rw q (omega arith, omega arith)) (λ q. rw q (omega arith, omega arith))
+
+-- a packet n that is first in the bytes from place a on: it has a byte at least, and at most all that are left
+pub next-packet : (l : List ℕ) (a n : ℕ) → a < length l → n ≡ firstLength (take (length l - a) (drop a l)) → (1 ≤ n) × (a + n ≤ length l)
+next-packet l a n h e =
+    let m = take (length l - a) (drop a l) in
+    let long : length m ≡ length l - a = simp (length-take, length-drop) (omega arith) in
+    let b = some-bytes m (omega arith) in
+    (omega (arith, b .0, e), omega (arith, b .1, e, long))

@@ -1,1 +1,1 @@
-mod DecodeLaws
+pub mod DecodeLaws

@@ -1,7 +1,7 @@
 -- The packet that bytes are. Its fields are read off, and it is one of document 01's if they make these bytes again. Assumes nothing.
 use mathlib.Core.Bool.{true, false, cond}
 use mathlib.Core.List.{List}
-use Prim.Native.Nat.{ℕ, _-_}
+use Prim.Native.Nat.{ℕ, _-_, min}
 use lib.Dec.{ltb, eqb}
 use lib.ListN.{length}
 use Rattle.words.specs.Lists.{same}
@@ -37,3 +37,7 @@ decoded l =
     (cond (ltb (length l) 20)
     (asMessage l (record { requester = high16 l 4; upper = 0; address = high32 l 8; value = word32 l 12 }))
     (asMessage l (record { requester = high16 l 4; upper = high32 l 8; address = high32 l 12; value = word32 l 16 }))))
+
+-- the length of the first of some packets, by its first byte, and at most all
+unfoldable pub firstLength : List ℕ → ℕ
+firstLength l = min (cond (eqb (byte l 0) 0x60) 20 16) (length l)

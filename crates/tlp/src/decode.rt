@@ -2,7 +2,7 @@
 ghost use Prim.Native.Nat.{_≤_};
 ghost use mathlib.Core.Path.{_≡_};
 ghost use lib.ListN.{length};
-ghost use Rattle.tlp.specs.Decoded.{asMessage, asWire, decodedWire, decoded};
+ghost use Rattle.tlp.specs.Decoded.{asMessage, asWire, decodedWire, decoded, firstLength};
 
 // A memory write of one word.
 pub struct Message {
@@ -115,4 +115,14 @@ pub fn decode(s: &[u8]) -> Packet
             value,
         },
     )
+}
+
+// How many bytes the first of some packets has: 20 where its first byte is 60h, else 16, and at most all.
+pub fn first_length(s: &[u8]) -> usize
+    ensures { λ r. ⌜ r ≡ firstLength (now (s .entry)) ⌝ }
+{
+    if words::parts::byte_at(s, 0) == 0x60 {
+        return words::parts::clipped(20, s);
+    }
+    words::parts::clipped(16, s)
 }

@@ -89,9 +89,6 @@ pub of-T : (b : Bool) → T b → b ≡ true
 of-T true t = refl
 of-T false t = absurd t
 
-pub to-T : (b : Bool) → b ≡ true → T b
-to-T b e = subst T (sym e) tt
-
 -- ---- rows of refusals
 
 -- no row applies: read off one row after the other

@@ -1,8 +1,12 @@
--- Bytes written into a lent output. Assumes nothing.
+-- Bytes written into a lent output, and parts of one. Assumes nothing.
 use mathlib.Core.Path.{_≡_}
 use mathlib.Core.List.{List, _++_}
-use Prim.Native.Nat.{ℕ}
+use Prim.Native.Nat.{ℕ, min}
 use lib.ListN.{length, take, drop}
+
+-- r is count, and at most all of l. The second part follows from the first, and is stated so that the proof that Rattle makes of `&s[..r]` finds it
+abbrev pub Clips : (count : ℕ) → List ℕ → (r : ℕ) → Type 0
+Clips count l r = (r ≡ min count (length l)) × (r ≡ length (take r l))
 
 -- bytes p at the start of o: those behind them keep their contents
 abbrev pub over : List ℕ → List ℕ → List ℕ

@@ -1,47 +1,29 @@
 -- Plays of cases: what makes a call right, steps one after another, whole cases. Assumes nothing.
 use mathlib.Core.Path.{_≡_, refl, sym, ap, _∙_}
-use mathlib.Core.Bool.{true, false}
+use mathlib.Core.Bool.{Bool, true, _&&_}
 use mathlib.Core.List.{List, [], _∷_, _++_, map}
 use Prim.Native.Nat.{ℕ, zero, suc, _+_, _≤_, _<_}
 use native.Mathlib.Omega.{arith}
 use lib.Dec.{eqb}
 use lib.ListN.{length}
-use borrow.Author.Tests.{eq-eqb, ne-eqb, eqb-true, eqb-false}
+use borrow.Author.Tests.{eqb-true, eqb-false}
 use Rattle.words.specs.Lists.{same, count}
 use Rattle.words.specs.Writers.{over}
 use Rattle.words.proofs.BoolLaws.{both, and-intro, by-test, of-T}
 use Rattle.model.specs.declared.Answer.{Answer}
 use Rattle.model.specs.Calls.{Outcome}
-use Rattle.model.specs.Play.{Step, Played, kindOf, detailOf, sameAnswer, right, played, playedAll, passes, allPass}
+use Rattle.model.specs.Answers.{sameAnswer}
+use Rattle.model.specs.Play.{Step, Played, right, played, playedAll, passes, allPass}
 use Rattle.model.specs.Cases.{starredCases, limitCases, benchCases}
 use Rattle.model.proofs.Starred.{starred, limits}
 
--- ---- answers
-
-module _ (a b : Answer) (k l : ℕ) (ek : k ≡ kindOf a) (el : l ≡ kindOf b) where
-  pub other-kind : (k ≡ l → ⊥) → false ≡ sameAnswer a b
-  unfolding sameAnswer
-  other-kind n = rw (ne-eqb (kindOf a) (kindOf b) (λ q. n (ek ∙ q ∙ sym el)))
-
-  pub same-kind : (x y : ℕ) → k ≡ l → x ≡ detailOf a → y ≡ detailOf b → eqb x y ≡ sameAnswer a b
-  unfolding sameAnswer
-  same-kind x y q ex ey = rw (eq-eqb (kindOf a) (kindOf b) (sym ek ∙ q ∙ el), ex, ey)
-
 -- ---- a call
 
-module _ (r : Outcome) (answer : Answer) (bytes out : List ℕ) where
-  pub other-answer : sameAnswer (r .answer) answer ≡ false → false ≡ right r answer bytes out
-  unfolding right
-  other-answer e = rw e
-
-  module _ (a : sameAnswer (r .answer) answer ≡ true) where
-    pub other-count : (r .count ≡ length bytes → ⊥) → false ≡ right r answer bytes out
-    unfolding right
-    other-count n = rw (a, ne-eqb (r .count) (length bytes) n)
-
-    pub by-output : r .count ≡ length bytes → right r answer bytes out ≡ same (r .output) (over bytes out)
-    unfolding right
-    by-output e = rw (a, eq-eqb (r .count) (length bytes) e)
+-- an outcome is right by its answer, its count and its output
+pub right-by : (r : Outcome) (answer : Answer) (bytes out : List ℕ) (a b : Bool) → a ≡ sameAnswer (r .answer) answer → b ≡ same (r .output) (over bytes out)
+    → (a && eqb (r .count) (length bytes) && b) ≡ right r answer bytes out
+unfolding right
+right-by r answer bytes out a b ea eb = λ i. ea i && eqb (r .count) (length bytes) && eb i
 
 -- an outcome is right whatever its world is
 pub right-anywhere : (r s : Outcome) (answer : Answer) (bytes out : List ℕ) → r .answer ≡ s .answer → r .count ≡ s .count → r .output ≡ s .output

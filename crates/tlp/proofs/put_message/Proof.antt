@@ -8,12 +8,6 @@ use borrow.Author.Needs.{needs}
 use Rattle.tlp.proofs.put_message.Statement.{statement}
 use Rattle.tlp.proofs.put_message.Tie as tie
 
-bytes-requires : tie.Need-bytes-requires
-bytes-requires c κs = search needs
-
-slice-aggregate-put-slice : tie.Need-slice-aggregate-put-slice
-slice-aggregate-put-slice c = search needs
-
 put-slice-requires : tie.Need-put-slice-requires
 put-slice-requires c κs =
     let at-bytes = c .before .before in
@@ -24,21 +18,12 @@ put-slice-requires c κs =
     ap length (at-bytes .bytes .ensures) ∙ message-length (a .requester) 0 (a .address) (a .value) ∙ ap messageSize (sym (at-if1 .if1 .taken)) in
     omega (arith, n, start .pre)
 
-same-length : tie.Need-same-length
-same-length c = search needs
-
 returns : tie.Need-returns
 returns c =
     let at-put-slice = c .before .before in
     let at-bytes = at-put-slice .before .before .before in
     let at-if1 = at-bytes .before in
     rw (at-if1 .if1 .taken) (rw (at-bytes .bytes .ensures) at (at-put-slice .put-slice .ensures))
-
-bytes-requires-2 : tie.Need-bytes-requires-2
-bytes-requires-2 c κs = search needs
-
-slice-aggregate-put-slice-2 : tie.Need-slice-aggregate-put-slice-2
-slice-aggregate-put-slice-2 c = search needs
 
 put-slice-requires-2 : tie.Need-put-slice-requires-2
 put-slice-requires-2 c κs =
@@ -48,9 +33,6 @@ put-slice-requires-2 c κs =
     let n : length (at-bytes2 .bytes2 .result) ≡ messageSize (a .upper) =
     ap length (at-bytes2 .bytes2 .ensures) ∙ message-length (a .requester) (a .upper) (a .address) (a .value) in
     omega (arith, n, start .pre)
-
-same-length-2 : tie.Need-same-length-2
-same-length-2 c = search needs
 
 returns-2 : tie.Need-returns-2
 returns-2 c =
@@ -62,13 +44,11 @@ pub put-message-spec : {M : Type 1} → statement M
 put-message-spec =
     tie.close
     (tie.spec
-    bytes-requires
-    slice-aggregate-put-slice
+    (λ c κs. search needs) (λ c. search needs)
     put-slice-requires
-    same-length
+    (λ c. search needs)
     returns
-    bytes-requires-2
-    slice-aggregate-put-slice-2
+    (λ c κs. search needs) (λ c. search needs)
     put-slice-requires-2
-    same-length-2
+    (λ c. search needs)
     returns-2)

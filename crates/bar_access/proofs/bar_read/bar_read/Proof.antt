@@ -4,12 +4,6 @@ use borrow.Author.Needs.{needs}
 use Rattle.bar_access.proofs.bar_read.bar_read.Statement.{statement}
 use Rattle.bar_access.proofs.bar_read.bar_read.Tie as tie
 
-check-requires : tie.Need-check-requires
-check-requires c κs = search needs
-
-refused-requires : tie.Need-refused-requires
-refused-requires c κs = search needs
-
 returns : tie.Need-returns
 returns c =
     let at-if1 = c .before in
@@ -29,4 +23,4 @@ returns-2 c =
 
 pub bar-read-spec : {M : Type 1} → statement M
 bar-read-spec =
-    tie.close (tie.spec check-requires refused-requires returns bar-read-core-requires returns-2)
+    tie.close (tie.spec (λ c κs. search needs) (λ c κs. search needs) returns bar-read-core-requires returns-2)

@@ -9,12 +9,6 @@ use borrow.Author.Needs.{needs}
 use Rattle.bar_access.proofs.bar_read.bar_read_core.Statement.{statement}
 use Rattle.bar_access.proofs.bar_read.bar_read_core.Tie as tie
 
-bad-bar-requires : tie.Need-bad-bar-requires
-bad-bar-requires c κs = search needs
-
-refused-requires : tie.Need-refused-requires
-refused-requires c κs = search needs
-
 returns : tie.Need-returns
 returns c =
     let at-if1 = c .before in
@@ -30,12 +24,6 @@ module _ (c : tie.Else1) where
   passed : let a = start .args in badBar (a .k .shape) (a .bar) (a .offset) (a .width) ≡ false
   passed = sym (c .before .bad-bar .ensures) ∙ c .if1 .left
 
-command-bit-requires : tie.Need-command-bit-requires
-command-bit-requires c κs = search needs
-
-refused-requires-2 : tie.Need-refused-requires-2
-refused-requires-2 c κs = search needs
-
 returns-2 : tie.Need-returns-2
 returns-2 c =
     let at-if2 = c .before in
@@ -48,9 +36,6 @@ bar-value-requires : tie.Need-bar-value-requires
 bar-value-requires c κs =
     let at-if1 = c .before .before .before .before in
     bar-asks _ _ _ _ (start at-if1 .pre) _ _ _ (passed at-if1)
-
-accepted-requires : tie.Need-accepted-requires
-accepted-requires c κs = search needs
 
 returns-3 : tie.Need-returns-3
 returns-3 c =
@@ -65,12 +50,10 @@ pub bar-read-core-spec : {M : Type 1} → statement M
 bar-read-core-spec =
     tie.close
     (tie.spec
-    bad-bar-requires
-    refused-requires
+    (λ c κs. search needs) (λ c κs. search needs)
     returns
-    command-bit-requires
-    refused-requires-2
+    (λ c κs. search needs) (λ c κs. search needs)
     returns-2
     bar-value-requires
-    accepted-requires
+    (λ c κs. search needs)
     returns-3)

@@ -15,12 +15,6 @@ use borrow.Author.Needs.{needs}
 use Rattle.bar_access.proofs.bar_write.bar_write_core.Statement.{statement}
 use Rattle.bar_access.proofs.bar_write.bar_write_core.Tie as tie
 
-bad-bar-requires : tie.Need-bad-bar-requires
-bad-bar-requires c κs = search needs
-
-refused-requires : tie.Need-refused-requires
-refused-requires c κs = search needs
-
 returns : tie.Need-returns
 returns c =
     let at-if1 = c .before in
@@ -35,12 +29,6 @@ module _ (c : tie.Else1) where
 
   passed : let a = start .args in badBar (a .k .shape) (a .bar) (a .offset) (a .width) ≡ false
   passed = sym (c .before .bad-bar .ensures) ∙ c .if1 .left
-
-command-bit-requires : tie.Need-command-bit-requires
-command-bit-requires c κs = search needs
-
-refused-requires-2 : tie.Need-refused-requires-2
-refused-requires-2 c κs = search needs
 
 returns-2 : tie.Need-returns-2
 returns-2 c =
@@ -57,12 +45,6 @@ module _ (c : tie.Else2) where
 
   memory : let a = start else1 .args in commandBit (regs (a .t1 .function .config) (now (a .table))) 1 ≡ true
   memory = sym (c .before .command-bit .ensures _) ∙ not-false _ (c .if2 .left)
-
-in-table-requires : tie.Need-in-table-requires
-in-table-requires c κs = search needs
-
-accepted-requires : tie.Need-accepted-requires
-accepted-requires c κs = search needs
 
 returns-3 : tie.Need-returns-3
 returns-3 c =
@@ -92,15 +74,6 @@ write-entry-requires c κs =
     let at-if1 = else1 (else2 at-if3) in
     table-asks _ _ _ _ (start at-if1 .pre) _ _ _ (passed at-if1) (inside at-if3)
 
-same-length : tie.Need-same-length
-same-length c = search needs
-
-same-length-2 : tie.Need-same-length-2
-same-length-2 c = search needs
-
-same-length-3 : tie.Need-same-length-3
-same-length-3 c = search needs
-
 returns-4 : tie.Need-returns-4
 returns-4 c =
     let at-write-entry = c .before .before .before .before .before .before in
@@ -115,18 +88,13 @@ pub bar-write-core-spec : {M : Type 1} → statement M
 bar-write-core-spec =
     tie.close
     (tie.spec
-    bad-bar-requires
-    refused-requires
+    (λ c κs. search needs) (λ c κs. search needs)
     returns
-    command-bit-requires
-    refused-requires-2
+    (λ c κs. search needs) (λ c κs. search needs)
     returns-2
-    in-table-requires
-    accepted-requires
+    (λ c κs. search needs) (λ c κs. search needs)
     returns-3
     sub-at
     write-entry-requires
-    same-length
-    same-length-2
-    same-length-3
+    (λ c. search needs) (λ c. search needs) (λ c. search needs)
     returns-4)

@@ -19,9 +19,6 @@ entry-after-requires c κs =
     let start = c .before .before .before .before in
     write-entry _ _ _ _ (start .pre .0) _ _ (start .pre .1) (start .pre .2)
 
-slice-aggregate-is-owed : tie.Need-slice-aggregate-is-owed
-slice-aggregate-is-owed c = search needs
-
 is-owed-requires : tie.Need-is-owed-requires
 is-owed-requires c κs =
     let at-entry-after = c .before .before .before .before in
@@ -44,15 +41,6 @@ table-written-requires c κs =
     let begin = start (c .before .before) in
     write-room _ _ _ _ (begin .pre .0) _ _ (begin .pre .1) (begin .pre .2)
 
-accepted-requires : tie.Need-accepted-requires
-accepted-requires c κs = search needs
-
-same-length : tie.Need-same-length
-same-length c = search needs
-
-same-length-2 : tie.Need-same-length-2
-same-length-2 c = search needs
-
 returns : tie.Need-returns
 returns c =
     let at-table-written = c .before .before .before in
@@ -61,24 +49,6 @@ returns c =
     let begin = start at-is-owed in
     write-quiet _ _ _ _ (begin .pre .0) _ _ (begin .pre .1) (begin .pre .2) (begin .args .value) _ _ (sym (found at-is-owed) ∙ not-true _ (at-if1 .if1 .taken)) _
     (at-table-written .table-written .ensures) (c .accepted .ensures)
-
-slice-aggregate-msix-message : tie.Need-slice-aggregate-msix-message
-slice-aggregate-msix-message c = search needs
-
-msix-message-requires : tie.Need-msix-message-requires
-msix-message-requires c κs = search needs
-
-message-size-requires : tie.Need-message-size-requires
-message-size-requires c κs = search needs
-
-refused-requires : tie.Need-refused-requires
-refused-requires c κs = search needs
-
-same-length-3 : tie.Need-same-length-3
-same-length-3 c = search needs
-
-same-length-4 : tie.Need-same-length-4
-same-length-4 c = search needs
 
 returns-2 : tie.Need-returns-2
 returns-2 c =
@@ -105,21 +75,6 @@ clear-pending-requires c κs =
     let begin = start (at-if1 .before) in
     write-pending _ _ _ _ (begin .pre .0) _ _ (begin .pre .1) (begin .pre .2)
 
-put-vector-message-requires : tie.Need-put-vector-message-requires
-put-vector-message-requires c κs = search needs
-
-accepted-requires-2 : tie.Need-accepted-requires-2
-accepted-requires-2 c κs = search needs
-
-same-length-5 : tie.Need-same-length-5
-same-length-5 c = search needs
-
-same-length-6 : tie.Need-same-length-6
-same-length-6 c = search needs
-
-same-length-7 : tie.Need-same-length-7
-same-length-7 c = search needs
-
 returns-3 : tie.Need-returns-3
 returns-3 c =
     let at-put-vector-message = c .before .before .before in
@@ -142,25 +97,15 @@ write-entry-spec =
     (tie.spec
     cast-put-vector-message
     entry-after-requires
-    slice-aggregate-is-owed
+    (λ c. search needs)
     is-owed-requires
     table-written-requires
-    accepted-requires
-    same-length
-    same-length-2
+    (λ c κs. search needs) (λ c. search needs) (λ c. search needs)
     returns
-    slice-aggregate-msix-message
-    msix-message-requires
-    message-size-requires
-    refused-requires
-    same-length-3
-    same-length-4
+    (λ c. search needs) (λ c κs. search needs) (λ c κs. search needs) (λ c κs. search needs) (λ c. search needs)
+    (λ c. search needs)
     returns-2
     table-written-requires-2
     clear-pending-requires
-    put-vector-message-requires
-    accepted-requires-2
-    same-length-5
-    same-length-6
-    same-length-7
+    (λ c κs. search needs) (λ c κs. search needs) (λ c. search needs) (λ c. search needs) (λ c. search needs)
     returns-3)

@@ -7,9 +7,6 @@ use Rattle.bar_access.proofs.bounds.bad_bar.Tie as tie
 returns : tie.Need-returns
 returns c = bar-above _ _ _ _ (c .if1 .taken)
 
-is-bar-width-requires : tie.Need-is-bar-width-requires
-is-bar-width-requires c κs = search needs
-
 returns-2 : tie.Need-returns-2
 returns-2 c = bar-width _ _ _ _ _ (c .before .before .if1 .left) (c .before .is-bar-width .ensures) (c .if2 .taken)
 
@@ -22,9 +19,6 @@ returns-3 c =
     let at-width = at-if2 .before in
     bar-multiple _ _ _ _ _ (at-width .before .if1 .left) (at-width .is-bar-width .ensures) (at-if2 .if2 .left) (c .if3 .taken)
 
-in-table-requires : tie.Need-in-table-requires
-in-table-requires c κs = search needs
-
 returns-4 : tie.Need-returns-4
 returns-4 c =
     let at-table = c .before in
@@ -33,9 +27,6 @@ returns-4 c =
     let at-width = at-if2 .before in
     bar-table _ _ _ _ _ (at-width .before .if1 .left) (at-width .is-bar-width .ensures) _ (at-if2 .if2 .left) (at-if3 .if3 .left) (at-table .in-table .ensures)
     (c .if4 .taken)
-
-in-pending-requires : tie.Need-in-pending-requires
-in-pending-requires c κs = search needs
 
 returns-5 : tie.Need-returns-5
 returns-5 c =
@@ -52,11 +43,11 @@ bad-bar-spec =
     tie.close
     (tie.spec
     returns
-    is-bar-width-requires
+    (λ c κs. search needs)
     returns-2
     rem-if3
     returns-3
-    in-table-requires
+    (λ c κs. search needs)
     returns-4
-    in-pending-requires
+    (λ c κs. search needs)
     returns-5)

@@ -7,17 +7,11 @@ use borrow.Author.Needs.{needs}
 use Rattle.bar_access.proofs.entry.is_owed.Statement.{statement}
 use Rattle.bar_access.proofs.entry.is_owed.Tie as tie
 
-is-msix-requires : tie.Need-is-msix-requires
-is-msix-requires c κs = search needs
-
 returns : tie.Need-returns
 returns c =
     let at-is-msix = c .before in
     let start = at-is-msix .before .before .before in
     λ u t same. owed-other _ _ (start .pre .0) t (now (start .args .pending)) u _ (sym (at-is-msix .is-msix .ensures) ∙ not-true _ (c .if1 .taken))
-
-waits-requires : tie.Need-waits-requires
-waits-requires c κs = search needs
 
 returns-2 : tie.Need-returns-2
 returns-2 c =
@@ -25,9 +19,6 @@ returns-2 c =
     let at-is-msix = at-waits .before .before in
     let start = at-is-msix .before .before .before in
     λ u t same. owed-idle _ _ (start .pre .0) t _ u _ (sym (at-waits .waits .ensures u) ∙ not-true _ (c .if2 .taken))
-
-entry-masked-requires : tie.Need-entry-masked-requires
-entry-masked-requires c κs = search needs
 
 returns-3 : tie.Need-returns-3
 returns-3 c =
@@ -59,11 +50,11 @@ pub is-owed-spec : {M : Type 1} → statement M
 is-owed-spec =
     tie.close
     (tie.spec
-    is-msix-requires
+    (λ c κs. search needs)
     returns
-    waits-requires
+    (λ c κs. search needs)
     returns-2
-    entry-masked-requires
+    (λ c κs. search needs)
     returns-3
     msix-enabled-requires
     returns-4)

@@ -7,11 +7,8 @@ use Rattle.capi.proofs.bytes.is_card.Tie as tie
 returns : tie.Need-returns
 returns c = wrong-length _ (c .if1 .taken)
 
-card-flags-clean-requires : tie.Need-card-flags-clean-requires
-card-flags-clean-requires c κs = search needs
-
 returns-2 : tie.Need-returns-2
 returns-2 c = right-length _ _ (c .before .if1 .left) (c .card-flags-clean .ensures)
 
 pub is-card-spec : {M : Type 1} → statement M
-is-card-spec = tie.close (tie.spec returns card-flags-clean-requires returns-2)
+is-card-spec = tie.close (tie.spec returns (λ c κs. search needs) returns-2)

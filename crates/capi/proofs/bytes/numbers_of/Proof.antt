@@ -11,42 +11,6 @@ use Rattle.capi.proofs.bytes.numbers_of.Tie as tie
 are-numbers : (a : Answer) (n x e : ℕ) → Numbered a n x e → numbers n x e ≡ numbersOf a
 are-numbers a n x e k = let q = numbered a n x e k in λ i. numbers (sym (q .0) i) (sym (q .1) i) (sym (q .2) i)
 
-enum-known-answer : tie.Need-enum-known-answer
-enum-known-answer c = search needs
-
-enum-known-answer-2 : tie.Need-enum-known-answer-2
-enum-known-answer-2 c = search needs
-
-enum-told : tie.Need-enum-told
-enum-told c = search needs
-
-became-requires : tie.Need-became-requires
-became-requires c κs = search needs
-
-enum-told-2 : tie.Need-enum-told-2
-enum-told-2 c = search needs
-
-became-requires-2 : tie.Need-became-requires-2
-became-requires-2 c κs = search needs
-
-enum-told-3 : tie.Need-enum-told-3
-enum-told-3 c = search needs
-
-became-requires-3 : tie.Need-became-requires-3
-became-requires-3 c κs = search needs
-
-enum-told-4 : tie.Need-enum-told-4
-enum-told-4 c = search needs
-
-became-requires-4 : tie.Need-became-requires-4
-became-requires-4 c κs = search needs
-
-enum-told-5 : tie.Need-enum-told-5
-enum-told-5 c = search needs
-
-became-requires-5 : tie.Need-became-requires-5
-became-requires-5 c κs = search needs
-
 returns : tie.Need-returns
 returns c = rw (c .before .answer .given .1) (are-numbers _ _ _ _ (is-refused _))
 
@@ -72,18 +36,9 @@ pub numbers-of-spec : {M : Type 1} → statement M
 numbers-of-spec =
     tie.close
     (tie.spec
-    enum-known-answer
-    enum-known-answer-2
-    enum-told
-    became-requires
-    enum-told-2
-    became-requires-2
-    enum-told-3
-    became-requires-3
-    enum-told-4
-    became-requires-4
-    enum-told-5
-    became-requires-5
+    (λ c. search needs) (λ c. search needs) (λ c. search needs) (λ c κs. search needs) (λ c. search needs)
+    (λ c κs. search needs) (λ c. search needs) (λ c κs. search needs) (λ c. search needs) (λ c κs. search needs)
+    (λ c. search needs) (λ c κs. search needs)
     returns
     returns-2
     returns-3

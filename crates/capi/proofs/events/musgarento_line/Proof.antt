@@ -18,12 +18,6 @@ operation c =
     let start = c .before .before .before .before .before .before in
     call (line (not (eqb (start .args .level) 0)) (now (start .args .out)))
 
-is-card-requires : tie.Need-is-card-requires
-is-card-requires c κs = search needs
-
-same-length : tie.Need-same-length
-same-length c = search needs
-
 returns : tie.Need-returns
 unfolding wellFormed lent
 returns c = no-card _ _ _ (operation (c .before)) refl _ (c .before .is-card .ensures) _ refl
@@ -32,20 +26,11 @@ returns c = no-card _ _ _ (operation (c .before)) refl _ (c .before .is-card .en
 card-of-requires : tie.Need-card-of-requires
 card-of-requires c κs = card-room _ _ (c .before .before .is-card .ensures) (c .before .if1 .left)
 
-line-requires : tie.Need-line-requires
-line-requires c κs = search needs
-
 hand-back-requires : tie.Need-hand-back-requires
 hand-back-requires c κs =
     let at-if1 = c .before .before .before .before .before .before .before in
     let at-is-card = at-if1 .before in
     card-size _ _ (at-is-card .is-card .ensures) (at-if1 .if1 .left)
-
-same-length-2 : tie.Need-same-length-2
-same-length-2 c = search needs
-
-same-length-3 : tie.Need-same-length-3
-same-length-3 c = search needs
 
 returns-2 : tie.Need-returns-2
 unfolding wellFormed
@@ -63,12 +48,10 @@ pub musgarento-line-spec : {M : Type 1} → statement M
 musgarento-line-spec =
     tie.close
     (tie.spec
-    is-card-requires
-    same-length
+    (λ c κs. search needs) (λ c. search needs)
     returns
     card-of-requires
-    line-requires
+    (λ c κs. search needs)
     hand-back-requires
-    same-length-2
-    same-length-3
+    (λ c. search needs) (λ c. search needs)
     returns-2)

@@ -18,18 +18,6 @@ abbrev μ-loop : tie.MeasureT-loop
 loop-holds : tie.Need-loop-holds Inv-loop μ-loop
 loop-holds c = (omega arith, c .pre, fill-start _ _ (sym (c .pre)))
 
-shared-slice-read-config : tie.Need-shared-slice-read-config Inv-loop μ-loop
-shared-slice-read-config c = search needs
-
-array-write-config : tie.Need-array-write-config Inv-loop μ-loop
-array-write-config c = search needs
-
-add-i : tie.Need-add-i Inv-loop μ-loop
-add-i c = search needs
-
-loop-less : tie.Need-loop-less Inv-loop μ-loop
-loop-less c = search needs
-
 loop-again : tie.Need-loop-again Inv-loop μ-loop
 loop-again c =
     let v = c .before .before .loop in
@@ -47,9 +35,6 @@ config-of-spec =
     Inv-loop
     μ-loop
     loop-holds
-    shared-slice-read-config
-    array-write-config
-    add-i
-    loop-less
+    (λ c. search needs) (λ c. search needs) (λ c. search needs) (λ c. search needs)
     loop-again
     returns)

@@ -16,24 +16,12 @@ operation c =
     let start = c .before .before .before .before .before in
     call (save (now (start .args .out)))
 
-is-card-requires : tie.Need-is-card-requires
-is-card-requires c κs = search needs
-
 returns : tie.Need-returns
 unfolding wellFormed lent
 returns c = no-card _ _ _ (operation (c .before)) refl _ (c .before .is-card .ensures) _ refl (c .if1 .taken)
 
 card-of-requires : tie.Need-card-of-requires
 card-of-requires c κs = card-room _ _ (c .before .is-card .ensures) (c .if1 .left)
-
-save-requires : tie.Need-save-requires
-save-requires c κs = search needs
-
-numbers-of-requires : tie.Need-numbers-of-requires
-numbers-of-requires c κs = search needs
-
-same-length : tie.Need-same-length
-same-length c = search needs
 
 returns-2 : tie.Need-returns-2
 unfolding wellFormed
@@ -51,10 +39,8 @@ pub musgarento-save-spec : {M : Type 1} → statement M
 musgarento-save-spec =
     tie.close
     (tie.spec
-    is-card-requires
+    (λ c κs. search needs)
     returns
     card-of-requires
-    save-requires
-    numbers-of-requires
-    same-length
+    (λ c κs. search needs) (λ c κs. search needs) (λ c. search needs)
     returns-2)

@@ -15,9 +15,6 @@ operation c =
     let start = c .before .before .before .before in
     call (barRead (start .args .bar) (start .args .offset) (start .args .width))
 
-is-card-requires : tie.Need-is-card-requires
-is-card-requires c κs = search needs
-
 returns : tie.Need-returns
 unfolding wellFormed lent
 returns c = no-card _ _ _ (operation (c .before)) refl _ (c .before .is-card .ensures) _ refl
@@ -25,12 +22,6 @@ returns c = no-card _ _ _ (operation (c .before)) refl _ (c .before .is-card .en
 
 card-of-requires : tie.Need-card-of-requires
 card-of-requires c κs = card-room _ _ (c .before .is-card .ensures) (c .if1 .left)
-
-bar-read-requires : tie.Need-bar-read-requires
-bar-read-requires c κs = search needs
-
-numbers-of-requires : tie.Need-numbers-of-requires
-numbers-of-requires c κs = search needs
 
 returns-2 : tie.Need-returns-2
 unfolding wellFormed
@@ -47,9 +38,8 @@ pub musgarento-bar-read-spec : {M : Type 1} → statement M
 musgarento-bar-read-spec =
     tie.close
     (tie.spec
-    is-card-requires
+    (λ c κs. search needs)
     returns
     card-of-requires
-    bar-read-requires
-    numbers-of-requires
+    (λ c κs. search needs) (λ c κs. search needs)
     returns-2)

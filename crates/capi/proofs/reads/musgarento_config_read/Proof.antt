@@ -28,21 +28,12 @@ config-bytes c i = let b : Fits w8 (byte (c .card-of .result .function .config) 
 config-length : (c : tie.After-card-of) → length (c .card-of .result .function .config) ≡ 256
 config-length c = search needs
 
-is-card-requires : tie.Need-is-card-requires
-is-card-requires c κs = search needs
-
 returns : tie.Need-returns
 unfolding wellFormed lent
 returns c = no-card _ _ _ (operation (c .before)) refl _ (c .before .is-card .ensures) _ refl (c .if1 .taken)
 
 card-of-requires : tie.Need-card-of-requires
 card-of-requires c κs = card-room _ _ (c .before .is-card .ensures) (c .if1 .left)
-
-config-read-requires : tie.Need-config-read-requires
-config-read-requires c κs = search needs
-
-numbers-of-requires : tie.Need-numbers-of-requires
-numbers-of-requires c κs = search needs
 
 cast-value : tie.Need-cast-value
 cast-value c =
@@ -70,10 +61,9 @@ pub musgarento-config-read-spec : {M : Type 1} → statement M
 musgarento-config-read-spec =
     tie.close
     (tie.spec
-    is-card-requires
+    (λ c κs. search needs)
     returns
     card-of-requires
-    config-read-requires
-    numbers-of-requires
+    (λ c κs. search needs) (λ c κs. search needs)
     cast-value
     returns-2)

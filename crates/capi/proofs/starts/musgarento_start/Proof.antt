@@ -13,27 +13,6 @@ returns-2 c = wrong-config _ _ _ _ _ _ _ (c .before .if1 .left) (c .if2 .taken)
 returns-3 : tie.Need-returns-3
 returns-3 c = wrong-sizes _ _ _ _ _ _ _ (c .before .before .if1 .left) (c .before .if2 .left) (c .if3 .taken)
 
-config-of-requires : tie.Need-config-of-requires
-config-of-requires c κs = search needs
-
-sizes-of-requires : tie.Need-sizes-of-requires
-sizes-of-requires c κs = search needs
-
-start-requires : tie.Need-start-requires
-start-requires c κs = search needs
-
-hand-back-requires : tie.Need-hand-back-requires
-hand-back-requires c κs = search needs
-
-same-length : tie.Need-same-length
-same-length c = search needs
-
-same-length-2 : tie.Need-same-length-2
-same-length-2 c = search needs
-
-same-length-3 : tie.Need-same-length-3
-same-length-3 c = search needs
-
 returns-4 : tie.Need-returns-4
 returns-4 c =
     let at-hand-back = c .before .before in
@@ -53,11 +32,6 @@ musgarento-start-spec =
     returns
     returns-2
     returns-3
-    config-of-requires
-    sizes-of-requires
-    start-requires
-    hand-back-requires
-    same-length
-    same-length-2
-    same-length-3
+    (λ c κs. search needs) (λ c κs. search needs) (λ c κs. search needs) (λ c κs. search needs) (λ c. search needs)
+    (λ c. search needs) (λ c. search needs)
     returns-4)

@@ -20,15 +20,6 @@ use Rattle.card.proofs.settle.settle.Tie as tie
 abbrev unit : tie.Start → Endpoint
 unit c = let a = c .args in endpointOf (a .t2) (now (a .table)) (now (a .pending))
 
-command-bit-requires : tie.Need-command-bit-requires
-command-bit-requires c κs = search needs
-
-set-mode-requires : tie.Need-set-mode-requires
-set-mode-requires c κs = search needs
-
-owed-size-requires : tie.Need-owed-size-requires
-owed-size-requires c κs = search needs
-
 owed-size-requires-2 : tie.Need-owed-size-requires-2
 owed-size-requires-2 c κs =
     let at-set-mode = c .before .before in
@@ -62,12 +53,6 @@ module _ (c : tie.After-owed-size2) where
 
 add-if1 : tie.Need-add-if1
 add-if1 c = omega (arith, size-small (owed c), at-owed-size c .owed-size .ensures, sweep-le _ _ (start c .pre .ready), c .owed-size2 .ensures)
-
-refused-requires : tie.Need-refused-requires
-refused-requires c κs = search needs
-
-same-length : tie.Need-same-length
-same-length c = search needs
 
 returns : tie.Need-returns
 returns c =
@@ -123,32 +108,17 @@ sub-send-owed c = omega (arith, room (c .before .before .before))
 part-send-owed-start : tie.Need-part-send-owed-start
 part-send-owed-start c = omega (arith, room (c .before .before .before))
 
-part-send-owed-end : tie.Need-part-send-owed-end
-part-send-owed-end c = search needs
-
 send-owed-requires : tie.Need-send-owed-requires
 send-owed-requires c κs =
     let at-put-owed = c .before .before .before .before in
     let begin = start (sized at-put-owed) in
     (begin .pre .ready, begin .pre .profiled, simp (length-take, length-drop) (omega (arith, room at-put-owed, sized at-put-owed .owed-size2 .ensures)))
 
-with-waiting-requires : tie.Need-with-waiting-requires
-with-waiting-requires c κs = search needs
-
 add-accepted : tie.Need-add-accepted
 add-accepted c =
     let at-send-owed = c .before .before .before .before .before .before in
     let at-put-owed = at-send-owed .before .before .before .before .before in
     omega (arith, few at-put-owed, sized at-put-owed .owed-size2 .ensures, at-send-owed .send-owed .ensures .sent .count)
-
-accepted-requires : tie.Need-accepted-requires
-accepted-requires c κs = search needs
-
-same-length-2 : tie.Need-same-length-2
-same-length-2 c = search needs
-
-same-length-3 : tie.Need-same-length-3
-same-length-3 c = search needs
 
 returns-2 : tie.Need-returns-2
 returns-2 c =
@@ -165,22 +135,17 @@ pub settle-spec : {M : Type 1} → statement M
 settle-spec =
     tie.close
     (tie.spec
-    command-bit-requires
-    set-mode-requires
-    owed-size-requires
+    (λ c κs. search needs) (λ c κs. search needs) (λ c κs. search needs)
     owed-size-requires-2
     add-if1
-    refused-requires
-    same-length
+    (λ c κs. search needs) (λ c. search needs)
     returns
     put-owed-requires
     sub-send-owed
     part-send-owed-start
-    part-send-owed-end
+    (λ c. search needs)
     send-owed-requires
-    with-waiting-requires
+    (λ c κs. search needs)
     add-accepted
-    accepted-requires
-    same-length-2
-    same-length-3
+    (λ c κs. search needs) (λ c. search needs) (λ c. search needs)
     returns-2)

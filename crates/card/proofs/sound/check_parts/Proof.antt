@@ -13,21 +13,12 @@ card-of c =
     let a = c .args in
     cardWith (now (a .config)) (now (a .sizes)) (a .events) (a .requester) (a .line) (a .waiting) (a .wire)
 
-check-requires : tie.Need-check-requires
-check-requires c κs = search needs
-
-wiring-requires : tie.Need-wiring-requires
-wiring-requires c κs = search needs
-
 returns : tie.Need-returns
 returns c =
     let at-wiring = c .before .before in
     let at-check = at-wiring .before .before in
     let start = at-check .before .before .before in
     check-function (card-of start) _ _ _ (at-check .check .ensures _) _ (at-wiring .wiring .ensures) (c .if1 .taken)
-
-due-requires : tie.Need-due-requires
-due-requires c κs = search needs
 
 returns-2 : tie.Need-returns-2
 returns-2 c =
@@ -38,4 +29,4 @@ returns-2 c =
     check-wire (card-of start) _ _ _ (at-check .check .ensures _) _ (at-wiring .wiring .ensures) (at-if1 .if1 .left) _ (c .due .ensures)
 
 pub check-parts-spec : {M : Type 1} → statement M
-check-parts-spec = tie.close (tie.spec check-requires wiring-requires returns due-requires returns-2)
+check-parts-spec = tie.close (tie.spec (λ c κs. search needs) (λ c κs. search needs) returns (λ c κs. search needs) returns-2)

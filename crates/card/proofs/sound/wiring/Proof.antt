@@ -3,14 +3,8 @@ use borrow.Author.Needs.{needs}
 use Rattle.card.proofs.sound.wiring.Statement.{statement}
 use Rattle.card.proofs.sound.wiring.Tie as tie
 
-command-bit-requires : tie.Need-command-bit-requires
-command-bit-requires c κs = search needs
-
-pin-number-requires : tie.Need-pin-number-requires
-pin-number-requires c κs = search needs
-
 returns : tie.Need-returns
 returns c = λ t. rw (c .pin-number .ensures t, c .before .command-bit .ensures t)
 
 pub wiring-spec : {M : Type 1} → statement M
-wiring-spec = tie.close (tie.spec command-bit-requires pin-number-requires returns)
+wiring-spec = tie.close (tie.spec (λ c κs. search needs) (λ c κs. search needs) returns)

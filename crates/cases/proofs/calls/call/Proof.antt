@@ -9,34 +9,25 @@ use Rattle.cases.proofs.calls.call.Tie as tie
 
 returns : tie.Need-returns
 returns c =
-    let at-table = c .before .before .before in
+    let at-out = c .before in
+    let at-pending = at-out .before in
+    let at-table = at-pending .before in
     let at-call = at-table .before in
-    let at-within = at-call .before .before .before .before in
-    let at-room = at-within .before .before in
-    let at-pending = at-room .before in
-    let at-length = at-pending .before .before in
-    let start = at-length .before .before .before .before .before .before in
-    let args = start .args in
-    let room = at-within .within .ensures .1 ∙ ap (λ (k : ℕ). min k 300) (at-room .room .ensures) in
-    calls (args .run) (now (args .bytes)) (args .row) _ _ _ _ _ _ _ (at-length .table-length .ensures .1) (at-pending .pending-length .ensures .1) room
-    (at-table .table4 .given) (c .before .before .pending4 .given) (c .before .out3 .given) (at-call .perform .ensures)
+    let at-room = at-call .before .before .before .before in
+    let at-rooms = at-room .before .before in
+    let at-pending-part = at-rooms .before in
+    let at-table-part = at-pending-part .before .before in
+    let args = at-table-part .before .before .before .before .before .before .before .args in
+    let room = at-room .clipped3 .ensures .0 ∙ ap (λ (k : ℕ). min k 300) (at-rooms .room .ensures) in
+    calls (args .run) (now (args .bytes)) (args .row) _ _ _ _ _ _ _ (at-table-part .clipped .ensures .0) (at-pending-part .clipped2 .ensures .0) room
+    (at-table .table4 .given) (at-pending .pending4 .given) (at-out .out3 .given) (at-call .perform .ensures)
 
 pub call-spec : {M : Type 1} → statement M
 call-spec =
     tie.close
     (tie.spec
-    (λ c. search needs)
-    (λ c κs. search needs)
-    (λ c. search needs)
-    (λ c κs. search needs)
-    (λ c κs. search needs)
-    (λ c. search needs)
-    (λ c κs. search needs)
-    (λ c. search needs)
-    (λ c. search needs)
-    (λ c. search needs)
-    (λ c. search needs)
-    (λ c. search needs)
-    (λ c. search needs)
-    (λ c κs. search needs)
+    (λ c. search needs) (λ c. search needs) (λ c. search needs) (λ c κs. search needs) (λ c. search needs)
+    (λ c. search needs) (λ c. search needs) (λ c κs. search needs) (λ c κs. search needs) (λ c. search needs)
+    (λ c κs. search needs) (λ c. search needs) (λ c. search needs) (λ c. search needs) (λ c. search needs)
+    (λ c. search needs) (λ c. search needs) (λ c κs. search needs)
     returns)

@@ -17,7 +17,7 @@ use Rattle.cases.proofs.play.case.Tie as tie
 
 abbrev Inv-loop : tie.InvT-loop
 Inv-loop number rows bytes run₀ i₀ run i =
-    (i ≤ rowCount) × (playedAll (seen run) (caseSteps number bytes (rowCount - i) (drop (43 * i) rows)) ≡ playedAll unplayed (caseSteps number bytes rowCount rows))
+    (i ≤ rowCount) × (playedAll (seen run) (caseSteps number bytes (rowCount - i) (drop (45 * i) rows)) ≡ playedAll unplayed (caseSteps number bytes rowCount rows))
 
 abbrev μ-loop : tie.MeasureT-loop
 μ-loop number rows bytes run₀ i₀ run i = rowCount - i
@@ -39,10 +39,10 @@ loop-again c =
     let bytes = at-bench .bench .result .bytes in
     let run = at-loop .loop .run in
     let i = at-loop .loop .i in
-    let rest = caseSteps n bytes (rowCount - (i + 1)) (drop (43 * (i + 1)) rows) in
+    let rest = caseSteps n bytes (rowCount - (i + 1)) (drop (45 * (i + 1)) rows) in
     let first = c .play-row .ensures ∙ ap (λ (r : Row). playedAll (seen run) (rowSteps n bytes r)) (at-row .row-at .ensures) in (
       search needs,
-      ap (λ (p : Played). playedAll p rest) first ∙ played-both (seen run) (rowSteps n bytes (rowOf (take 43 (drop (43 * i) rows)))) rest
+      ap (λ (p : Played). playedAll p rest) first ∙ played-both (seen run) (rowSteps n bytes (rowOf (take 45 (drop (45 * i) rows)))) rest
           ∙ ap (λ (l : List Step). playedAll (seen run) l) (next-row n bytes rowCount rows i (in-loop .loop-test .taken)) ∙ at-loop .loop .inv .1,
     )
 
@@ -66,13 +66,8 @@ case-spec =
     (tie.spec
     Inv-loop
     μ-loop
-    (λ c κs. search needs)
-    (λ c κs. search needs)
+    (λ c κs. search needs) (λ c κs. search needs)
     loop-holds
-    (λ c κs. search needs)
-    (λ c. search needs)
-    (λ c κs. search needs)
-    (λ c. search needs)
-    (λ c. search needs)
+    (λ c κs. search needs) (λ c. search needs) (λ c κs. search needs) (λ c. search needs) (λ c. search needs)
     loop-again
     returns)

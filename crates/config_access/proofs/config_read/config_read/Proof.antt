@@ -4,12 +4,6 @@ use borrow.Author.Needs.{needs}
 use Rattle.config_access.proofs.config_read.config_read.Statement.{statement}
 use Rattle.config_access.proofs.config_read.config_read.Tie as tie
 
-check-requires : tie.Need-check-requires
-check-requires c κs = search needs
-
-refused-requires : tie.Need-refused-requires
-refused-requires c κs = search needs
-
 returns : tie.Need-returns
 returns c =
     let at-if1 = c .before in
@@ -30,4 +24,4 @@ returns-2 c =
 pub config-read-spec : {M : Type 1} → statement M
 config-read-spec =
     tie.close
-    (tie.spec check-requires refused-requires returns config-read-core-requires returns-2)
+    (tie.spec (λ c κs. search needs) (λ c κs. search needs) returns config-read-core-requires returns-2)

@@ -7,12 +7,6 @@ use borrow.Author.Needs.{needs}
 use Rattle.config_access.proofs.config_read.config_read_core.Statement.{statement}
 use Rattle.config_access.proofs.config_read.config_read_core.Tie as tie
 
-bad-config-requires : tie.Need-bad-config-requires
-bad-config-requires c κs = search needs
-
-refused-requires : tie.Need-refused-requires
-refused-requires c κs = search needs
-
 returns : tie.Need-returns
 returns c =
     let at-if1 = c .before in
@@ -23,12 +17,6 @@ config-value-requires c κs =
     let at-if1 = c .before .before in
     let start = at-if1 .before .before .before .before in
     read-asks _ _ _ _ (start .pre) _ _ (sym (at-if1 .before .bad-config .ensures) ∙ at-if1 .if1 .left)
-
-cast-t17 : tie.Need-cast-t17
-cast-t17 c = search needs
-
-accepted-requires : tie.Need-accepted-requires
-accepted-requires c κs = search needs
 
 returns-2 : tie.Need-returns-2
 returns-2 c =
@@ -42,10 +30,8 @@ pub config-read-core-spec : {M : Type 1} → statement M
 config-read-core-spec =
     tie.close
     (tie.spec
-    bad-config-requires
-    refused-requires
+    (λ c κs. search needs) (λ c κs. search needs)
     returns
     config-value-requires
-    cast-t17
-    accepted-requires
+    (λ c. search needs) (λ c κs. search needs)
     returns-2)

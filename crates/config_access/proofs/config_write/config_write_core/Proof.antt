@@ -10,12 +10,6 @@ use borrow.Author.Needs.{needs}
 use Rattle.config_access.proofs.config_write.config_write_core.Statement.{statement}
 use Rattle.config_access.proofs.config_write.config_write_core.Tie as tie
 
-bad-config-requires : tie.Need-bad-config-requires
-bad-config-requires c κs = search needs
-
-refused-requires : tie.Need-refused-requires
-refused-requires c κs = search needs
-
 returns : tie.Need-returns
 returns c =
     let at-if1 = c .before in
@@ -35,9 +29,6 @@ config-written-requires c κs =
     let at-if1 = c .before .before .before in
     write-asks _ _ _ _ (start at-if1 .pre .0) _ _ (start at-if1 .args .value) (passed at-if1)
 
-with-config-requires : tie.Need-with-config-requires
-with-config-requires c κs = search needs
-
 mode-requires : tie.Need-mode-requires
 mode-requires c κs =
     let at-with-config = c .before .before in
@@ -53,12 +44,6 @@ settle-requires c κs =
     let begin = start at-if1 in
     write-unsettled _ _ _ _ (begin .pre .0) _ _ _ (passed at-if1) _ (at-config-written .config-written .ensures) _ (at-with-config .with-config .ensures) _
     (begin .pre .1) _ (at-mode .mode .ensures)
-
-same-length : tie.Need-same-length
-same-length c = search needs
-
-same-length-2 : tie.Need-same-length-2
-same-length-2 c = search needs
 
 returns-2 : tie.Need-returns-2
 returns-2 c =
@@ -76,13 +61,11 @@ pub config-write-core-spec : {M : Type 1} → statement M
 config-write-core-spec =
     tie.close
     (tie.spec
-    bad-config-requires
-    refused-requires
+    (λ c κs. search needs) (λ c κs. search needs)
     returns
     config-written-requires
-    with-config-requires
+    (λ c κs. search needs)
     mode-requires
     settle-requires
-    same-length
-    same-length-2
+    (λ c. search needs) (λ c. search needs)
     returns-2)

@@ -17,9 +17,6 @@ unit c line =
     let a = c .args in
     endpointOf (functionOf (now (a .config)) (now (a .sizes)) (a .events) (a .requester) line (a .waiting)) (now (a .table)) (now (a .pending))
 
-check-start-requires : tie.Need-check-start-requires
-check-start-requires c κs = search needs
-
 returns : tie.Need-returns
 returns c =
     let at-check-start = c .before .before .before .before in
@@ -69,4 +66,4 @@ returns-2 c =
     }
 
 pub check-spec : {M : Type 1} → statement M
-check-spec = tie.close (tie.spec check-start-requires returns mode-requires is-clean-requires returns-2)
+check-spec = tie.close (tie.spec (λ c κs. search needs) returns mode-requires is-clean-requires returns-2)

@@ -7,9 +7,6 @@ use Rattle.endpoint.proofs.sound.msi_below.Tie as tie
 returns : tie.Need-returns
 returns c = no-msi _ _ (c .if1 .taken)
 
-shl-count : tie.Need-shl-count
-shl-count c = search needs
-
 shl-result : tie.Need-shl-result
 shl-result c = count-small (c .before .before .args .s) (c .before .before .pre)
 
@@ -17,4 +14,4 @@ returns-2 : tie.Need-returns-2
 returns-2 c = with-msi _ _ _ (c .if1 .left) (c .before .before .pre) refl
 
 pub msi-below-spec : {M : Type 1} → statement M
-msi-below-spec = tie.close (tie.spec returns shl-count shl-result returns-2)
+msi-below-spec = tie.close (tie.spec returns (λ c. search needs) shl-result returns-2)

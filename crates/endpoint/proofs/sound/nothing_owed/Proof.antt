@@ -16,20 +16,11 @@ unit c sizes events requester line =
     let a = c .args in
     endpointOf (functionOf (now (a .config)) sizes events requester line (a .waiting)) (now (a .table)) (now (a .pending))
 
-enum-told : tie.Need-enum-told
-enum-told c = search needs
-
-enum-told-2 : tie.Need-enum-told-2
-enum-told-2 c = search needs
-
 msi-owed-requires : tie.Need-msi-owed-requires
 msi-owed-requires c κs =
     let start = c .before .before .before .before in
     let k = start .pre .0 in
     (k .fits, k .form, λ t. k .mode t ∙ c .enum-told2 .given .1)
-
-enum-told-3 : tie.Need-enum-told-3
-enum-told-3 c = search needs
 
 msix-enabled-requires : tie.Need-msix-enabled-requires
 msix-enabled-requires c κs =
@@ -75,10 +66,9 @@ pub nothing-owed-spec : {M : Type 1} → statement M
 nothing-owed-spec =
     tie.close
     (tie.spec
-    enum-told
-    enum-told-2
+    (λ c. search needs) (λ c. search needs)
     msi-owed-requires
-    enum-told-3
+    (λ c. search needs)
     msix-enabled-requires
     none-owed-requires
     returns

@@ -5,11 +5,8 @@ use borrow.Author.Needs.{needs}
 use Rattle.endpoint.proofs.sweep.msi_owed.Statement.{statement}
 use Rattle.endpoint.proofs.sweep.msi_owed.Tie as tie
 
-msi-open-requires : tie.Need-msi-open-requires
-msi-open-requires c κs = search needs
-
 returns : tie.Need-returns
 returns c = λ z e q l t p. owed-msi _ (endpointOf (functionOf _ z e q l _) t p) _ (c .before .pre .0 .capable) (c .msi-open .ensures t)
 
 pub msi-owed-spec : {M : Type 1} → statement M
-msi-owed-spec = tie.close (tie.spec msi-open-requires returns)
+msi-owed-spec = tie.close (tie.spec (λ c κs. search needs) returns)

@@ -30,9 +30,6 @@ msi-send-requires c κs =
     let owed = at-msi-owed .msi-owed .ensures (f .sizes) (f .events) (f .requester) (f .line) [] [] in
     (at-msi-base .msi-base .ensures .1, rw (msi-bytes _ (endpointOf _ [] []) _ _ owed (at-msi-base .msi-base .ensures .0 [])) at (start .pre .2 [] []))
 
-same-length : tie.Need-same-length
-same-length c = search needs
-
 -- the waiting bits are a word
 word : (c : tie.Start) → c .args .t1 .waiting < 2 ^ 32
 word c = search needs
@@ -49,4 +46,4 @@ returns c =
 
 pub msi-send-spec : {M : Type 1} → statement M
 msi-send-spec =
-    tie.close (tie.spec msi-owed-requires msi-base-requires msi-send-requires same-length returns)
+    tie.close (tie.spec msi-owed-requires msi-base-requires msi-send-requires (λ c. search needs) returns)

@@ -19,9 +19,6 @@ msi-base-requires c κs =
     let start = at-msi-owed .before .before .before in
     (start .pre .0 .fits, start .pre .0 .form)
 
-msi-size-requires : tie.Need-msi-size-requires
-msi-size-requires c κs = search needs
-
 returns : tie.Need-returns
 returns c =
     let at-msi-base = c .before in
@@ -31,4 +28,4 @@ returns c =
     ∙ sym (ap length (msi-bytes _ (endpointOf _ t p) _ _ (at-msi-owed .msi-owed .ensures _ _ _ _ t p) (at-msi-base .msi-base .ensures .0 t)))
 
 pub msi-size-spec : {M : Type 1} → statement M
-msi-size-spec = tie.close (tie.spec msi-owed-requires msi-base-requires msi-size-requires returns)
+msi-size-spec = tie.close (tie.spec msi-owed-requires msi-base-requires (λ c κs. search needs) returns)

@@ -17,12 +17,6 @@ msix-send-requires c κs =
     let start = at-msix-enabled .before .before .before .before .before .before in
     (start .pre .1, msix-room _ _ _ _ _ (sym (at-msix-enabled .msix-enabled .ensures _) ∙ at-if1 .if1 .taken) (start .pre .2) (start .pre .4))
 
-same-length : tie.Need-same-length
-same-length c = search needs
-
-same-length-2 : tie.Need-same-length-2
-same-length-2 c = search needs
-
 returns : tie.Need-returns
 returns c =
     let at-msix-send = c .before .before .before .before in
@@ -39,4 +33,4 @@ returns-2 c =
 pub msix-send-spec : {M : Type 1} → statement M
 msix-send-spec =
     tie.close
-    (tie.spec msix-enabled-requires msix-send-requires same-length same-length-2 returns returns-2)
+    (tie.spec msix-enabled-requires msix-send-requires (λ c. search needs) (λ c. search needs) returns returns-2)

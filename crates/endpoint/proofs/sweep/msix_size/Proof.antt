@@ -11,9 +11,6 @@ msix-enabled-requires c κs =
     let start = c .before .before .before .before in
     (start .pre .0, start .pre .3)
 
-msix-size-requires : tie.Need-msix-size-requires
-msix-size-requires c κs = search needs
-
 returns : tie.Need-returns
 returns c =
     let at-if1 = c .before in
@@ -26,4 +23,4 @@ returns-2 : tie.Need-returns-2
 returns-2 c = ap length (off-bytes _ _ (sym (c .before .msix-enabled .ensures _) ∙ c .if1 .left))
 
 pub msix-size-spec : {M : Type 1} → statement M
-msix-size-spec = tie.close (tie.spec msix-enabled-requires msix-size-requires returns returns-2)
+msix-size-spec = tie.close (tie.spec msix-enabled-requires (λ c κs. search needs) returns returns-2)

@@ -8,19 +8,10 @@ use borrow.Author.Needs.{needs}
 use Rattle.endpoint.proofs.sweep.owed_size.Statement.{statement}
 use Rattle.endpoint.proofs.sweep.owed_size.Tie as tie
 
-enum-told : tie.Need-enum-told
-enum-told c = search needs
-
-enum-told-2 : tie.Need-enum-told-2
-enum-told-2 c = search needs
-
 msi-size-requires : tie.Need-msi-size-requires
 msi-size-requires c κs =
     let start = c .before .before .before .before in
     (start .pre .1, c .enum-told2 .given .1)
-
-enum-told-3 : tie.Need-enum-told-3
-enum-told-3 c = search needs
 
 msix-size-requires : tie.Need-msix-size-requires
 msix-size-requires c κs =
@@ -49,10 +40,9 @@ pub owed-size-spec : {M : Type 1} → statement M
 owed-size-spec =
     tie.close
     (tie.spec
-    enum-told
-    enum-told-2
+    (λ c. search needs) (λ c. search needs)
     msi-size-requires
-    enum-told-3
+    (λ c. search needs)
     msix-size-requires
     returns
     returns-2

@@ -7,21 +7,12 @@ use borrow.Author.Needs.{needs}
 use Rattle.endpoint.proofs.sweep.send_owed.Statement.{statement}
 use Rattle.endpoint.proofs.sweep.send_owed.Tie as tie
 
-enum-told : tie.Need-enum-told
-enum-told c = search needs
-
-enum-told-2 : tie.Need-enum-told-2
-enum-told-2 c = search needs
-
 msi-send-requires : tie.Need-msi-send-requires
 msi-send-requires c κs =
     let at-msi = c .before in
     let start = at-msi .before .before .before .before .before in
     let k = start .pre .1 in
     (k, at-msi .enum-told2 .given .1, λ t p. msi-room _ _ _ _ t p _ (k .mode _ ∙ at-msi .enum-told2 .given .1) (start .pre .2))
-
-enum-told-3 : tie.Need-enum-told-3
-enum-told-3 c = search needs
 
 msix-send-requires : tie.Need-msix-send-requires
 msix-send-requires c κs =
@@ -37,21 +28,12 @@ returns c =
     let e = start .pre .1 .mode _ ∙ c .enum-told .given .1 in
     none-sent _ _ _ _ (pin-bytes _ _ ∙ bytes-mode Pin _ _ e) (pin-swept _ _ ∙ swept-mode Pin _ _ e)
 
-same-length : tie.Need-same-length
-same-length c = search needs
-
 returns-2 : tie.Need-returns-2
 returns-2 c =
     let at-msi-send = c .before .before in
     let at-msi = at-msi-send .before .before in
     let start = at-msi .before .before .before .before .before in
     swept-by Msi _ _ _ _ _ _ (start .pre .1 .mode _ ∙ at-msi .enum-told2 .given .1) (at-msi-send .msi-send .ensures _ _)
-
-same-length-2 : tie.Need-same-length-2
-same-length-2 c = search needs
-
-same-length-3 : tie.Need-same-length-3
-same-length-3 c = search needs
 
 returns-3 : tie.Need-returns-3
 returns-3 c =
@@ -64,14 +46,12 @@ pub send-owed-spec : {M : Type 1} → statement M
 send-owed-spec =
     tie.close
     (tie.spec
-    enum-told
-    enum-told-2
+    (λ c. search needs) (λ c. search needs)
     msi-send-requires
-    enum-told-3
+    (λ c. search needs)
     msix-send-requires
     returns
-    same-length
+    (λ c. search needs)
     returns-2
-    same-length-2
-    same-length-3
+    (λ c. search needs) (λ c. search needs)
     returns-3)

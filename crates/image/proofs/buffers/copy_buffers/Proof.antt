@@ -23,39 +23,6 @@ rest l p n h =
     let k : length (drop (294 + n) l) ≤ length p = rw length-drop (omega arith) in
     take-all (length p) (drop (294 + n) l) k ∙ sym (drop-drop n 294 l)
 
-add-middle : tie.Need-add-middle
-add-middle c = search needs
-
-sub-put-slice : tie.Need-sub-put-slice
-sub-put-slice c = search needs
-
-part-put-slice-start : tie.Need-part-put-slice-start
-part-put-slice-start c = search needs
-
-part-put-slice-end : tie.Need-part-put-slice-end
-part-put-slice-end c = search needs
-
-put-slice-requires : tie.Need-put-slice-requires
-put-slice-requires c κs = search needs
-
-sub-put-slice-2 : tie.Need-sub-put-slice-2
-sub-put-slice-2 c = search needs
-
-part-put-slice-start-2 : tie.Need-part-put-slice-start-2
-part-put-slice-start-2 c = search needs
-
-part-put-slice-end-2 : tie.Need-part-put-slice-end-2
-part-put-slice-end-2 c = search needs
-
-put-slice-requires-2 : tie.Need-put-slice-requires-2
-put-slice-requires-2 c κs = search needs
-
-same-length : tie.Need-same-length
-same-length c = search needs
-
-same-length-2 : tie.Need-same-length-2
-same-length-2 c = search needs
-
 returns : tie.Need-returns
 returns c =
     let at-put-slice2 = c .before .before in
@@ -73,15 +40,7 @@ pub copy-buffers-spec : {M : Type 1} → statement M
 copy-buffers-spec =
     tie.close
     (tie.spec
-    add-middle
-    sub-put-slice
-    part-put-slice-start
-    part-put-slice-end
-    put-slice-requires
-    sub-put-slice-2
-    part-put-slice-start-2
-    part-put-slice-end-2
-    put-slice-requires-2
-    same-length
-    same-length-2
+    (λ c. search needs) (λ c. search needs) (λ c. search needs) (λ c. search needs) (λ c κs. search needs)
+    (λ c. search needs) (λ c. search needs) (λ c. search needs) (λ c κs. search needs) (λ c. search needs)
+    (λ c. search needs)
     returns)

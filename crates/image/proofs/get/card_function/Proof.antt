@@ -5,11 +5,8 @@ use borrow.Author.Needs.{needs}
 use Rattle.image.proofs.get.card_function.Statement.{statement}
 use Rattle.image.proofs.get.card_function.Tie as tie
 
-function-from-requires : tie.Need-function-from-requires
-function-from-requires c κs = search needs
-
 returns : tie.Need-returns
 returns c = c .function-from .ensures ∙ from-start _
 
 pub card-function-spec : {M : Type 1} → statement M
-card-function-spec = tie.close (tie.spec function-from-requires returns)
+card-function-spec = tie.close (tie.spec (λ c κs. search needs) returns)

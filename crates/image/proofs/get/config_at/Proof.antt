@@ -23,21 +23,6 @@ loop-holds c =
     let n = length-part (now (a .s)) (a .at) 256 (c .pre) in
     (omega arith, n, fill-start _ _ (sym n))
 
-add-config : tie.Need-add-config Inv-loop μ-loop
-add-config c = search needs
-
-shared-slice-read-config : tie.Need-shared-slice-read-config Inv-loop μ-loop
-shared-slice-read-config c = search needs
-
-array-write-config : tie.Need-array-write-config Inv-loop μ-loop
-array-write-config c = search needs
-
-add-i : tie.Need-add-i Inv-loop μ-loop
-add-i c = search needs
-
-loop-less : tie.Need-loop-less Inv-loop μ-loop
-loop-less c = search needs
-
 loop-again : tie.Need-loop-again Inv-loop μ-loop
 loop-again c =
     let v = c .before .before .loop in
@@ -58,10 +43,6 @@ config-at-spec =
     Inv-loop
     μ-loop
     loop-holds
-    add-config
-    shared-slice-read-config
-    array-write-config
-    add-i
-    loop-less
+    (λ c. search needs) (λ c. search needs) (λ c. search needs) (λ c. search needs) (λ c. search needs)
     loop-again
     returns)

@@ -8,20 +8,8 @@ use Rattle.image.proofs.get.is_marked.Tie as tie
 returns : tie.Need-returns
 returns c = short (now (c .before .args .image)) (c .if1 .taken)
 
-shared-slice-read-if2 : tie.Need-shared-slice-read-if2
-shared-slice-read-if2 c = search needs
-
-array-read-if2 : tie.Need-array-read-if2
-array-read-if2 c = search needs
-
 returns-2 : tie.Need-returns-2
 returns-2 c = first (now (c .before .before .before .args .image)) (c .before .before .if1 .left) (c .if2 .taken)
-
-shared-slice-read-if3 : tie.Need-shared-slice-read-if3
-shared-slice-read-if3 c = search needs
-
-array-read-if3 : tie.Need-array-read-if3
-array-read-if3 c = search needs
 
 returns-3 : tie.Need-returns-3
 returns-3 c =
@@ -29,12 +17,6 @@ returns-3 c =
     let at-if1 = at-if2 .before .before in
     let start = at-if1 .before in
     second (now (start .args .image)) (at-if1 .if1 .left) (at-if2 .if2 .left) (c .if3 .taken)
-
-shared-slice-read-result : tie.Need-shared-slice-read-result
-shared-slice-read-result c = search needs
-
-array-read-result : tie.Need-array-read-result
-array-read-result c = search needs
 
 returns-4 : tie.Need-returns-4
 returns-4 c =
@@ -48,12 +30,9 @@ is-marked-spec =
     tie.close
     (tie.spec
     returns
-    shared-slice-read-if2
-    array-read-if2
+    (λ c. search needs) (λ c. search needs)
     returns-2
-    shared-slice-read-if3
-    array-read-if3
+    (λ c. search needs) (λ c. search needs)
     returns-3
-    shared-slice-read-result
-    array-read-result
+    (λ c. search needs) (λ c. search needs)
     returns-4)

@@ -5,14 +5,8 @@ use borrow.Author.Needs.{needs}
 use Rattle.image.proofs.get.line_from.Statement.{statement}
 use Rattle.image.proofs.get.line_from.Tie as tie
 
-sub-result : tie.Need-sub-result
-sub-result c = search needs
-
-shared-slice-read-result : tie.Need-shared-slice-read-result
-shared-slice-read-result c = search needs
-
 returns : tie.Need-returns
 returns c = sym (bit-zero _)
 
 pub line-from-spec : {M : Type 1} → statement M
-line-from-spec = tie.close (tie.spec sub-result shared-slice-read-result returns)
+line-from-spec = tie.close (tie.spec (λ c. search needs) (λ c. search needs) returns)

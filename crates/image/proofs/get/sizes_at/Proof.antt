@@ -24,27 +24,6 @@ loop-holds c =
     let n = length-words 6 (drop (a .at) (now (a .s))) in
     (omega arith, n, fill-start _ _ (sym n))
 
-mul-word32 : tie.Need-mul-word32 Inv-loop μ-loop
-mul-word32 c = search needs
-
-add-word32 : tie.Need-add-word32 Inv-loop μ-loop
-add-word32 c = search needs
-
-word32-requires : tie.Need-word32-requires Inv-loop μ-loop
-word32-requires c κs = search needs
-
-mul-sizes : tie.Need-mul-sizes Inv-loop μ-loop
-mul-sizes c = search needs
-
-array-write-sizes : tie.Need-array-write-sizes Inv-loop μ-loop
-array-write-sizes c = search needs
-
-add-i : tie.Need-add-i Inv-loop μ-loop
-add-i c = search needs
-
-loop-less : tie.Need-loop-less Inv-loop μ-loop
-loop-less c = search needs
-
 loop-again : tie.Need-loop-again Inv-loop μ-loop
 loop-again c =
     let at-loop = c .before .before in
@@ -69,12 +48,7 @@ sizes-at-spec =
     Inv-loop
     μ-loop
     loop-holds
-    mul-word32
-    add-word32
-    word32-requires
-    mul-sizes
-    array-write-sizes
-    add-i
-    loop-less
+    (λ c. search needs) (λ c. search needs) (λ c κs. search needs) (λ c. search needs) (λ c. search needs)
+    (λ c. search needs) (λ c. search needs)
     loop-again
     returns)

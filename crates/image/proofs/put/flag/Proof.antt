@@ -4,11 +4,8 @@ use borrow.Author.Needs.{needs}
 use Rattle.image.proofs.put.flag.Statement.{statement}
 use Rattle.image.proofs.put.flag.Tie as tie
 
-cast-result : tie.Need-cast-result
-cast-result c = search needs
-
 returns : tie.Need-returns
 returns c = (flag-number (c .args .set), flag-small (c .args .set))
 
 pub flag-spec : {M : Type 1} → statement M
-flag-spec = tie.close (tie.spec cast-result returns)
+flag-spec = tie.close (tie.spec (λ c. search needs) returns)

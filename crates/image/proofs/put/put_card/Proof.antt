@@ -51,27 +51,6 @@ module _ (c : tie.After-slice-known3) where
   room : at-put-slice .put-slice .result + at-put-sizes .put-sizes .result + 256 ≤ length out₂
   room = omega (arith, nine, twenty-four, c .before .out2 .given .1 ∙ at-put-slice .put-slice .kept .0, start .pre)
 
-numbers-requires : tie.Need-numbers-requires
-numbers-requires c κs = search needs
-
-slice-aggregate-put-slice : tie.Need-slice-aggregate-put-slice
-slice-aggregate-put-slice c = search needs
-
-put-slice-requires : tie.Need-put-slice-requires
-put-slice-requires c κs = search needs
-
-sub-put-sizes : tie.Need-sub-put-sizes
-sub-put-sizes c = search needs
-
-part-put-sizes-start : tie.Need-part-put-sizes-start
-part-put-sizes-start c = search needs
-
-part-put-sizes-end : tie.Need-part-put-sizes-end
-part-put-sizes-end c = search needs
-
-put-sizes-requires : tie.Need-put-sizes-requires
-put-sizes-requires c κs = search needs
-
 add-b : tie.Need-add-b
 add-b c = omega (arith, nine c, twenty-four c)
 
@@ -80,12 +59,6 @@ sub-put-slice c = omega (arith, room c)
 
 part-put-slice-start : tie.Need-part-put-slice-start
 part-put-slice-start c = omega (arith, room c)
-
-part-put-slice-end : tie.Need-part-put-slice-end
-part-put-slice-end c = search needs
-
-slice-aggregate-put-slice-2 : tie.Need-slice-aggregate-put-slice-2
-slice-aggregate-put-slice-2 c = search needs
 
 put-slice-requires-2 : tie.Need-put-slice-requires-2
 put-slice-requires-2 c κs =
@@ -97,9 +70,6 @@ add-result c =
     let at-put-slice2 = c .before .before in
     let written = at-put-slice2 .before .before .before in
     omega (arith, nine written, twenty-four written, config-known (start written), at-put-slice2 .put-slice2 .ensures .count)
-
-same-length : tie.Need-same-length
-same-length c = search needs
 
 returns : tie.Need-returns
 returns c =
@@ -121,19 +91,13 @@ pub put-card-spec : {M : Type 1} → statement M
 put-card-spec =
     tie.close
     (tie.spec
-    numbers-requires
-    slice-aggregate-put-slice
-    put-slice-requires
-    sub-put-sizes
-    part-put-sizes-start
-    part-put-sizes-end
-    put-sizes-requires
+    (λ c κs. search needs) (λ c. search needs) (λ c κs. search needs) (λ c. search needs) (λ c. search needs)
+    (λ c. search needs) (λ c κs. search needs)
     add-b
     sub-put-slice
     part-put-slice-start
-    part-put-slice-end
-    slice-aggregate-put-slice-2
+    (λ c. search needs) (λ c. search needs)
     put-slice-requires-2
     add-result
-    same-length
+    (λ c. search needs)
     returns)

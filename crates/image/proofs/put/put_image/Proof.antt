@@ -85,17 +85,11 @@ module _ (c : tie.After-slice-known4) where
   room₃ : at₂ with-card + at-put-slice .put-slice .result + length (start (begun with-card) .args .pending .now) ≤ length out₃
   room₃ = omega (arith, room₂ with-card, kept₂ with-card, table-wrote, kept₃)
 
-put-start-requires : tie.Need-put-start-requires
-put-start-requires c κs = search needs
-
 sub-put-card : tie.Need-sub-put-card
 sub-put-card c = omega (arith, room c)
 
 part-put-card-start : tie.Need-part-put-card-start
 part-put-card-start c = omega (arith, room c)
-
-part-put-card-end : tie.Need-part-put-card-end
-part-put-card-end c = search needs
 
 put-card-requires : tie.Need-put-card-requires
 put-card-requires c κs = simp (length-take, length-drop) (omega (arith, room (c .before)))
@@ -109,9 +103,6 @@ sub-put-slice c = omega (arith, room₂ c)
 part-put-slice-start : tie.Need-part-put-slice-start
 part-put-slice-start c = omega (arith, room₂ c)
 
-part-put-slice-end : tie.Need-part-put-slice-end
-part-put-slice-end c = search needs
-
 put-slice-requires : tie.Need-put-slice-requires
 put-slice-requires c κs = simp (length-take, length-drop) (omega (arith, room₂ (c .before)))
 
@@ -124,9 +115,6 @@ sub-put-slice-2 c = omega (arith, room₃ c)
 part-put-slice-start-2 : tie.Need-part-put-slice-start-2
 part-put-slice-start-2 c = omega (arith, room₃ c)
 
-part-put-slice-end-2 : tie.Need-part-put-slice-end-2
-part-put-slice-end-2 c = search needs
-
 put-slice-requires-2 : tie.Need-put-slice-requires-2
 put-slice-requires-2 c κs = simp (length-take, length-drop) (omega (arith, room₃ (c .before)))
 
@@ -135,9 +123,6 @@ add-result c =
     let at-put-slice2 = c .before .before in
     let with-table = at-put-slice2 .before .before in
     omega (arith, room₃ with-table, kept₃ with-table, start (begun (with-card with-table)) .good, at-put-slice2 .put-slice2 .ensures .count)
-
-same-length : tie.Need-same-length
-same-length c = search needs
 
 returns : tie.Need-returns
 unfolding imageOf
@@ -163,21 +148,21 @@ pub put-image-spec : {M : Type 1} → statement M
 put-image-spec =
     tie.close
     (tie.spec
-    put-start-requires
+    (λ c κs. search needs)
     sub-put-card
     part-put-card-start
-    part-put-card-end
+    (λ c. search needs)
     put-card-requires
     add-b
     sub-put-slice
     part-put-slice-start
-    part-put-slice-end
+    (λ c. search needs)
     put-slice-requires
     add-c
     sub-put-slice-2
     part-put-slice-start-2
-    part-put-slice-end-2
+    (λ c. search needs)
     put-slice-requires-2
     add-result
-    same-length
+    (λ c. search needs)
     returns)

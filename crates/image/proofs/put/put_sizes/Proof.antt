@@ -34,24 +34,6 @@ module _ (c : tie.After-put-le Inv-loop μ-loop) where
 loop-holds : tie.Need-loop-holds Inv-loop μ-loop
 loop-holds c = (omega arith, refl, refl, refl)
 
-mul-size : tie.Need-mul-size Inv-loop μ-loop
-mul-size c = search needs
-
-array-read-size : tie.Need-array-read-size Inv-loop μ-loop
-array-read-size c = search needs
-
-sub-put-le : tie.Need-sub-put-le Inv-loop μ-loop
-sub-put-le c = search needs
-
-part-put-le-start : tie.Need-part-put-le-start Inv-loop μ-loop
-part-put-le-start c = search needs
-
-part-put-le-end : tie.Need-part-put-le-end Inv-loop μ-loop
-part-put-le-end c = search needs
-
-cast-put-le : tie.Need-cast-put-le Inv-loop μ-loop
-cast-put-le c = search needs
-
 put-le-requires : tie.Need-put-le-requires Inv-loop μ-loop
 put-le-requires c κs = simp (length-take, length-drop) (omega arith)
 
@@ -59,12 +41,6 @@ add-at : tie.Need-add-at Inv-loop μ-loop
 add-at c =
     let at-put-le = c .before .before in
     omega (arith, at-loop at-put-le .loop .inv, four at-put-le)
-
-add-i : tie.Need-add-i Inv-loop μ-loop
-add-i c = search needs
-
-loop-less : tie.Need-loop-less Inv-loop μ-loop
-loop-less c = search needs
 
 loop-again : tie.Need-loop-again Inv-loop μ-loop
 loop-again c =
@@ -77,9 +53,6 @@ loop-again c =
       c .before .out .given .1 ∙ v .inv .2,
       join-next (bytesOf 4) (sizes at-put-le) (v .i) (v .at) (v .out) _ (v .inv .3) (k .result) (k .last .0) (omega (arith, v .inv, n)) (omega (arith, v .inv)) (k .ensures),
     )
-
-same-length : tie.Need-same-length Inv-loop μ-loop
-same-length c = search needs
 
 returns : tie.Need-returns Inv-loop μ-loop
 returns c =
@@ -98,16 +71,11 @@ put-sizes-spec =
     Inv-loop
     μ-loop
     loop-holds
-    mul-size
-    array-read-size
-    sub-put-le
-    part-put-le-start
-    part-put-le-end
-    cast-put-le
+    (λ c. search needs) (λ c. search needs) (λ c. search needs) (λ c. search needs) (λ c. search needs)
+    (λ c. search needs)
     put-le-requires
     add-at
-    add-i
-    loop-less
+    (λ c. search needs) (λ c. search needs)
     loop-again
-    same-length
+    (λ c. search needs)
     returns)

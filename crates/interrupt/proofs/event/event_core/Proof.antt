@@ -9,17 +9,8 @@ use borrow.Author.Needs.{needs}
 use Rattle.interrupt.proofs.event.event_core.Statement.{statement}
 use Rattle.interrupt.proofs.event.event_core.Tie as tie
 
-refused-requires : tie.Need-refused-requires
-refused-requires c κs = search needs
-
 returns : tie.Need-returns
 returns c = core-row _ _ _ _ 2 _ (event-refused _ _ _ (c .before .if1 .taken)) refl (c .refused .ensures)
-
-is-pin-requires : tie.Need-is-pin-requires
-is-pin-requires c κs = search needs
-
-accepted-requires : tie.Need-accepted-requires
-accepted-requires c κs = search needs
 
 returns-2 : tie.Need-returns-2
 returns-2 c =
@@ -48,18 +39,6 @@ raise-requires c κs =
           (at-event-vector .event-vector .ensures _),
     )
 
-with-waiting-requires : tie.Need-with-waiting-requires
-with-waiting-requires c κs = search needs
-
-accepted-requires-2 : tie.Need-accepted-requires-2
-accepted-requires-2 c κs = search needs
-
-same-length : tie.Need-same-length
-same-length c = search needs
-
-same-length-2 : tie.Need-same-length-2
-same-length-2 c = search needs
-
 returns-3 : tie.Need-returns-3
 returns-3 c =
     let at-with-waiting = c .before in
@@ -78,15 +57,11 @@ pub event-core-spec : {M : Type 1} → statement M
 event-core-spec =
     tie.close
     (tie.spec
-    refused-requires
+    (λ c κs. search needs)
     returns
-    is-pin-requires
-    accepted-requires
+    (λ c κs. search needs) (λ c κs. search needs)
     returns-2
     event-vector-requires
     raise-requires
-    with-waiting-requires
-    accepted-requires-2
-    same-length
-    same-length-2
+    (λ c κs. search needs) (λ c κs. search needs) (λ c. search needs) (λ c. search needs)
     returns-3)

@@ -4,19 +4,10 @@ use borrow.Author.Needs.{needs}
 use Rattle.interrupt.proofs.event.hold.Statement.{statement}
 use Rattle.interrupt.proofs.event.hold.Tie as tie
 
-enum-told : tie.Need-enum-told
-enum-told c = search needs
-
-enum-told-2 : tie.Need-enum-told-2
-enum-told-2 c = search needs
-
 set-waiting-requires : tie.Need-set-waiting-requires
 set-waiting-requires c κs =
     let start = c .before .before .before in
     msi-vector _ _ _ (c .enum-told2 .given .1) (start .pre .0) (start .pre .2)
-
-enum-told-3 : tie.Need-enum-told-3
-enum-told-3 c = search needs
 
 set-pending-requires : tie.Need-set-pending-requires
 set-pending-requires c κs =
@@ -30,9 +21,6 @@ returns c = λ u. held-pin u _ _ _ _ (c .enum-told .given .1)
 returns-2 : tie.Need-returns-2
 returns-2 c = λ u. held-msi u _ _ _ _ _ (c .before .enum-told2 .given .1) (c .set-waiting .ensures)
 
-same-length : tie.Need-same-length
-same-length c = search needs
-
 returns-3 : tie.Need-returns-3
 returns-3 c =
     let at-set-pending = c .before .before in
@@ -42,12 +30,11 @@ pub hold-spec : {M : Type 1} → statement M
 hold-spec =
     tie.close
     (tie.spec
-    enum-told
-    enum-told-2
+    (λ c. search needs) (λ c. search needs)
     set-waiting-requires
-    enum-told-3
+    (λ c. search needs)
     set-pending-requires
     returns
     returns-2
-    same-length
+    (λ c. search needs)
     returns-3)

@@ -30,9 +30,6 @@ send-requires c κs =
     let start = at-is-open .before .before .before .before in
     (start .pre .0, start .pre .1 .table, start .pre .2)
 
-same-length : tie.Need-same-length
-same-length c = search needs
-
 returns : tie.Need-returns
 returns c =
     let at-send = c .before .before in
@@ -42,12 +39,6 @@ returns c =
     λ z e l y.
     at-send .send .ensures (now (start .args .pending)) z e l y
     ∙ raised-open (card-of start z e l y) _ _ _ _ _ _ _ (at-is-open .is-open .ensures) (at-if1 .if1 .taken)
-
-waits-requires : tie.Need-waits-requires
-waits-requires c κs = search needs
-
-same-length-2 : tie.Need-same-length-2
-same-length-2 c = search needs
 
 returns-2 : tie.Need-returns-2
 returns-2 c =
@@ -65,9 +56,6 @@ hold-requires c κs =
     let at-is-open = at-waits .before .before .before in
     let start = at-is-open .before .before .before .before in
     (start .pre .1 .shape .capable, start .pre .1 .pending, start .pre .2)
-
-same-length-3 : tie.Need-same-length-3
-same-length-3 c = search needs
 
 returns-3 : tie.Need-returns-3
 returns-3 c =
@@ -87,11 +75,10 @@ raise-spec =
     (tie.spec
     is-open-requires
     send-requires
-    same-length
+    (λ c. search needs)
     returns
-    waits-requires
-    same-length-2
+    (λ c κs. search needs) (λ c. search needs)
     returns-2
     hold-requires
-    same-length-3
+    (λ c. search needs)
     returns-3)

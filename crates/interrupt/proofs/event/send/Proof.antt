@@ -15,12 +15,6 @@ use Rattle.interrupt.proofs.event.send.Tie as tie
 abbrev card-of : tie.Start → List ℕ → ℕ → Bool → Bool → Card
 card-of c sizes events line wire = let a = c .args in cardWith (now (a .config)) sizes events (a .requester) line (a .waiting) wire
 
-vector-message-requires : tie.Need-vector-message-requires
-vector-message-requires c κs = search needs
-
-message-size-requires : tie.Need-message-size-requires
-message-size-requires c κs = search needs
-
 returns : tie.Need-returns
 returns c =
     let at-message-size = c .before in
@@ -29,12 +23,6 @@ returns c =
     λ p z e l y.
     send-short (card-of start z e l y) _ p _ _ _ _ _ _ _ _ (at-vector-message .vector-message .ensures _) (at-message-size .message-size .ensures) _
     (c .if1 .taken) refl
-
-put-vector-message-requires : tie.Need-put-vector-message-requires
-put-vector-message-requires c κs = search needs
-
-same-length : tie.Need-same-length
-same-length c = search needs
 
 returns-2 : tie.Need-returns-2
 returns-2 c =
@@ -51,9 +39,7 @@ pub send-spec : {M : Type 1} → statement M
 send-spec =
     tie.close
     (tie.spec
-    vector-message-requires
-    message-size-requires
+    (λ c κs. search needs) (λ c κs. search needs)
     returns
-    put-vector-message-requires
-    same-length
+    (λ c κs. search needs) (λ c. search needs)
     returns-2)

@@ -4,12 +4,6 @@ use borrow.Author.Needs.{needs}
 use Rattle.interrupt.proofs.line.line.Statement.{statement}
 use Rattle.interrupt.proofs.line.line.Tie as tie
 
-check-requires : tie.Need-check-requires
-check-requires c κs = search needs
-
-refused-requires : tie.Need-refused-requires
-refused-requires c κs = search needs
-
 returns : tie.Need-returns
 returns c =
     let at-if1 = c .before in
@@ -22,9 +16,6 @@ line-core-requires c κs =
     let at-check = at-if1 .before .before in
     (frame-runs (at-check .check .ensures) (at-if1 .if1 .left), frame-wires (at-check .check .ensures) (at-if1 .if1 .left))
 
-same-length : tie.Need-same-length
-same-length c = search needs
-
 returns-2 : tie.Need-returns-2
 returns-2 c =
     let at-core = c .before .before in
@@ -36,9 +27,8 @@ pub line-spec : {M : Type 1} → statement M
 line-spec =
     tie.close
     (tie.spec
-    check-requires
-    refused-requires
+    (λ c κs. search needs) (λ c κs. search needs)
     returns
     line-core-requires
-    same-length
+    (λ c. search needs)
     returns-2)

@@ -6,15 +6,6 @@ use borrow.Author.Needs.{needs}
 use Rattle.interrupt.proofs.line.line_core.Statement.{statement}
 use Rattle.interrupt.proofs.line.line_core.Tie as tie
 
-set-line-requires : tie.Need-set-line-requires
-set-line-requires c κs = search needs
-
-owed-size-requires : tie.Need-owed-size-requires
-owed-size-requires c κs = search needs
-
-refused-requires : tie.Need-refused-requires
-refused-requires c κs = search needs
-
 returns : tie.Need-returns
 returns c =
     let at-if1 = c .before in
@@ -32,15 +23,6 @@ put-owed-requires c κs =
     let start = at-set-line .before .before .before .before in
     (wires-pin (start .pre .0) _ (start .pre .1), omega (arith, at-if1 .if1 .left, at-owed-size .owed-size .ensures))
 
-with-line-requires : tie.Need-with-line-requires
-with-line-requires c κs = search needs
-
-accepted-requires : tie.Need-accepted-requires
-accepted-requires c κs = search needs
-
-same-length : tie.Need-same-length
-same-length c = search needs
-
 returns-2 : tie.Need-returns-2
 returns-2 c =
     let at-with-line = c .before in
@@ -56,12 +38,8 @@ pub line-core-spec : {M : Type 1} → statement M
 line-core-spec =
     tie.close
     (tie.spec
-    set-line-requires
-    owed-size-requires
-    refused-requires
+    (λ c κs. search needs) (λ c κs. search needs) (λ c κs. search needs)
     returns
     put-owed-requires
-    with-line-requires
-    accepted-requires
-    same-length
+    (λ c κs. search needs) (λ c κs. search needs) (λ c. search needs)
     returns-2)

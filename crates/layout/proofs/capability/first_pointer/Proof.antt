@@ -6,12 +6,6 @@ use Rattle.layout.specs.Places.{firstPointer}
 use Rattle.layout.proofs.capability.first_pointer.Statement.{statement}
 use Rattle.layout.proofs.capability.first_pointer.Tie as tie
 
-element-copy-out-if1 : tie.Need-element-copy-out-if1
-element-copy-out-if1 c = search needs
-
-element-copy-out-result : tie.Need-element-copy-out-result
-element-copy-out-result c = search needs
-
 returns : tie.Need-returns
 unfolding firstPointer bit
 returns c = rw (eq-eqb _ _ (c .before .if1 .taken))
@@ -22,4 +16,4 @@ returns-2 c = rw (ne-eqb _ _ (c .if1 .left))
 
 pub first-pointer-spec : {M : Type 1} → statement M
 first-pointer-spec =
-    tie.close (tie.spec element-copy-out-if1 element-copy-out-result returns returns-2)
+    tie.close (tie.spec (λ c. search needs) (λ c. search needs) returns returns-2)

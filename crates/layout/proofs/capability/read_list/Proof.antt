@@ -18,9 +18,6 @@ Inv-loop c msi₀ msix₀ p₀ n₀ msi msix p n =
 abbrev μ-loop : tie.MeasureT-loop
 μ-loop c msi₀ msix₀ p₀ n₀ msi msix p n = 48 - n
 
-first-pointer-requires : tie.Need-first-pointer-requires Inv-loop μ-loop
-first-pointer-requires c κs = search needs
-
 loop-holds : tie.Need-loop-holds Inv-loop μ-loop
 loop-holds c =
     let f = now (c .before .args .c) in (
@@ -29,9 +26,6 @@ loop-holds c =
       omega arith,
       ap (λ (p : ℕ). onward f (found 0 0) (found 0 0) (walk f 48 p)) (c .first-pointer .ensures) ∙ onward-list f,
     )
-
-place-requires : tie.Need-place-requires Inv-loop μ-loop
-place-requires c κs = search needs
 
 -- a turn: the pointer leads to a place
 module _ (c : tie.After-place Inv-loop μ-loop) where
@@ -48,9 +42,6 @@ returns c =
     turn-ends (config at-place) (v .msi) (v .msix) (v .n) (v .p) (at-place .place .result) _ (at-place .place .ensures .0)
     (v .inv .3) (c .if1 .taken)
 
-broken-list-requires : tie.Need-broken-list-requires Inv-loop μ-loop
-broken-list-requires c κs = search needs
-
 returns-2 : tie.Need-returns-2 Inv-loop μ-loop
 returns-2 c =
     let at-if1 = c .before .before in
@@ -60,9 +51,6 @@ returns-2 c =
     ∙ turn-low (config at-place) (v .msi) (v .msix) (v .n) (v .p) (at-place .place .result) _ (at-place .place .ensures .0)
     (v .inv .3) (at-if1 .if1 .left) (c .before .if2 .taken)
 
-broken-list-requires-2 : tie.Need-broken-list-requires-2 Inv-loop μ-loop
-broken-list-requires-2 c κs = search needs
-
 returns-3 : tie.Need-returns-3 Inv-loop μ-loop
 returns-3 c =
     let at-if1 = c .before .before .before in
@@ -71,27 +59,6 @@ returns-3 c =
     c .broken-list2 .ensures
     ∙ turn-full (config at-place) (v .msi) (v .msix) (v .n) (v .p) (at-place .place .result) _ (at-place .place .ensures .0)
     (v .inv .3) (at-if1 .if1 .left) (c .before .if3 .taken)
-
-element-copy-out-id : tie.Need-element-copy-out-id Inv-loop μ-loop
-element-copy-out-id c = search needs
-
-with-requires : tie.Need-with-requires Inv-loop μ-loop
-with-requires c κs = search needs
-
-with-requires-2 : tie.Need-with-requires-2 Inv-loop μ-loop
-with-requires-2 c κs = search needs
-
-add-p : tie.Need-add-p Inv-loop μ-loop
-add-p c = search needs
-
-element-copy-out-p : tie.Need-element-copy-out-p Inv-loop μ-loop
-element-copy-out-p c = search needs
-
-add-n : tie.Need-add-n Inv-loop μ-loop
-add-n c = search needs
-
-loop-less : tie.Need-loop-less Inv-loop μ-loop
-loop-less c = search needs
 
 loop-again : tie.Need-loop-again Inv-loop μ-loop
 loop-again c =
@@ -114,19 +81,14 @@ read-list-spec =
     (tie.spec
     Inv-loop
     μ-loop
-    first-pointer-requires
+    (λ c κs. search needs)
     loop-holds
-    place-requires
+    (λ c κs. search needs)
     returns
-    broken-list-requires
+    (λ c κs. search needs)
     returns-2
-    broken-list-requires-2
+    (λ c κs. search needs)
     returns-3
-    element-copy-out-id
-    with-requires
-    with-requires-2
-    add-p
-    element-copy-out-p
-    add-n
-    loop-less
+    (λ c. search needs) (λ c κs. search needs) (λ c κs. search needs) (λ c. search needs) (λ c. search needs)
+    (λ c. search needs) (λ c. search needs)
     loop-again)

@@ -40,12 +40,6 @@ bits true true = refl
 at : (wide masks : Bool) (d : Form) → getD table (boolByte wide + 2 * boolByte masks) d ≡ forms masks wide
 at wide masks d = rw rule (map-count formAt d 4 (boolByte wide + 2 * boolByte masks) (below wide masks) ∙ bits wide masks)
 
-cast-row : tie.Need-cast-row
-cast-row c = search needs
-
-cast-row-2 : tie.Need-cast-row-2
-cast-row-2 c = search needs
-
 mul-row : tie.Need-mul-row
 mul-row c = omega (arith, flag-small (c .before .before .args .s .msi .wide), flag-small (c .before .before .args .s .msi .masks))
 
@@ -63,4 +57,4 @@ unfolding formOf table
 returns c = at (c .before .before .before .args .s .msi .wide) (c .before .before .before .args .s .msi .masks) _
 
 pub form-spec : {M : Type 1} → statement M
-form-spec = tie.close (tie.spec cast-row cast-row-2 mul-row add-row mul-result array-copy-out-result returns)
+form-spec = tie.close (tie.spec (λ c. search needs) (λ c. search needs) mul-row add-row mul-result array-copy-out-result returns)

@@ -11,12 +11,9 @@ returns : tie.Need-returns
 unfolding msiFound noMsi
 returns c = rw (eq-eqb _ _ (c .if1 .taken))
 
-msi-at-requires : tie.Need-msi-at-requires
-msi-at-requires c κs = search needs
-
 returns-2 : tie.Need-returns-2
 unfolding msiFound
 returns-2 c = c .msi-at .ensures ∙ rw (ne-eqb _ _ (c .before .if1 .left))
 
 pub msi-found-spec : {M : Type 1} → statement M
-msi-found-spec = tie.close (tie.spec returns msi-at-requires returns-2)
+msi-found-spec = tie.close (tie.spec returns (λ c κs. search needs) returns-2)

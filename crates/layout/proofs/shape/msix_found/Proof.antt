@@ -11,12 +11,9 @@ returns : tie.Need-returns
 unfolding msixFound noMsix
 returns c = rw (eq-eqb _ _ (c .if1 .taken))
 
-msix-at-requires : tie.Need-msix-at-requires
-msix-at-requires c κs = search needs
-
 returns-2 : tie.Need-returns-2
 unfolding msixFound
 returns-2 c = c .msix-at .ensures ∙ rw (ne-eqb _ _ (c .before .if1 .left))
 
 pub msix-found-spec : {M : Type 1} → statement M
-msix-found-spec = tie.close (tie.spec returns msix-at-requires returns-2)
+msix-found-spec = tie.close (tie.spec returns (λ c κs. search needs) returns-2)

@@ -7,18 +7,6 @@ use borrow.Author.Needs.{needs}
 use Rattle.layout.proofs.shape.word_at.Statement.{statement}
 use Rattle.layout.proofs.shape.word_at.Tie as tie
 
-add-if1 : tie.Need-add-if1
-add-if1 c = search needs
-
-word32-requires : tie.Need-word32-requires
-word32-requires c κs = search needs
-
-cast-result : tie.Need-cast-result
-cast-result c = search needs
-
-returns : tie.Need-returns
-returns c = search needs
-
 returns-2 : tie.Need-returns-2
 returns-2 c =
     let a = c .before .before .args in
@@ -26,4 +14,4 @@ returns-2 c =
     sym (word-past (now (a .c)) (a .at) (omega arith))
 
 pub word-at-spec : {M : Type 1} → statement M
-word-at-spec = tie.close (tie.spec add-if1 word32-requires cast-result returns returns-2)
+word-at-spec = tie.close (tie.spec (λ c. search needs) (λ c κs. search needs) (λ c. search needs) (λ c. search needs) returns-2)

@@ -6,12 +6,6 @@ use borrow.Author.Needs.{needs}
 use Rattle.layout.proofs.start.bad_buffers.Statement.{statement}
 use Rattle.layout.proofs.start.bad_buffers.Tie as tie
 
-table-bytes-requires : tie.Need-table-bytes-requires
-table-bytes-requires c κs = search needs
-
-pending-bytes-requires : tie.Need-pending-bytes-requires
-pending-bytes-requires c κs = search needs
-
 returns : tie.Need-returns
 unfolding badBuffers
 returns c = rw (sym (c .before .before .table-bytes .ensures .0), ne-eqb _ _ (c .if1 .taken))
@@ -22,4 +16,4 @@ returns-2 c = rw (sym (c .before .before .table-bytes .ensures .0), sym (c .befo
 
 pub bad-buffers-spec : {M : Type 1} → statement M
 bad-buffers-spec =
-    tie.close (tie.spec table-bytes-requires pending-bytes-requires returns returns-2)
+    tie.close (tie.spec (λ c κs. search needs) (λ c κs. search needs) returns returns-2)

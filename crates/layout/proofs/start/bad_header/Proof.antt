@@ -5,12 +5,6 @@ use borrow.Author.Needs.{needs}
 use Rattle.layout.proofs.start.bad_header.Statement.{statement}
 use Rattle.layout.proofs.start.bad_header.Tie as tie
 
-element-copy-out-if1 : tie.Need-element-copy-out-if1
-element-copy-out-if1 c = search needs
-
-element-copy-out-result : tie.Need-element-copy-out-result
-element-copy-out-result c = search needs
-
 returns : tie.Need-returns
 unfolding badHeader
 returns c = rw (ne-eqb _ _ (c .if1 .taken))
@@ -21,4 +15,4 @@ returns-2 c = rw (eq-eqb _ _ (c .before .if1 .left))
 
 pub bad-header-spec : {M : Type 1} → statement M
 bad-header-spec =
-    tie.close (tie.spec element-copy-out-if1 element-copy-out-result returns returns-2)
+    tie.close (tie.spec (λ c. search needs) (λ c. search needs) returns returns-2)

@@ -11,15 +11,6 @@ returns : tie.Need-returns
 unfolding badRegions
 returns c = rw (msix-absent (c .before .before .args .s) (c .if1 .taken))
 
-table-bytes-requires : tie.Need-table-bytes-requires
-table-bytes-requires c κs = search needs
-
-pending-bytes-requires : tie.Need-pending-bytes-requires
-pending-bytes-requires c κs = search needs
-
-outside-requires : tie.Need-outside-requires
-outside-requires c κs = search needs
-
 -- both lengths are known
 module _ (c : tie.After-pending-bytes) where
   abbrev at-if1 : tie.Else1
@@ -35,9 +26,6 @@ returns-2 c =
     region-1 (now (a .sizes)) (a .s) (at-lengths .before .table-bytes .result) (at-lengths .pending-bytes .result)
     (at-lengths .before .table-bytes .ensures .0) (at-lengths .pending-bytes .ensures .0) (at-if1 at-lengths .if1 .left)
     (sym (c .before .outside .ensures) ∙ c .if2 .taken)
-
-outside-requires-2 : tie.Need-outside-requires-2
-outside-requires-2 c κs = search needs
 
 returns-3 : tie.Need-returns-3
 returns-3 c =
@@ -61,9 +49,6 @@ returns-4 c =
     (sym (at-if3 .before .outside2 .ensures) ∙ at-if3 .if3 .left)
     (c .if4 .taken)
 
-overlap-requires : tie.Need-overlap-requires
-overlap-requires c κs = search needs
-
 returns-5 : tie.Need-returns-5
 returns-5 c =
     let at-if3 = c .before .before .before .before in
@@ -82,12 +67,10 @@ bad-regions-spec =
     tie.close
     (tie.spec
     returns
-    table-bytes-requires
-    pending-bytes-requires
-    outside-requires
+    (λ c κs. search needs) (λ c κs. search needs) (λ c κs. search needs)
     returns-2
-    outside-requires-2
+    (λ c κs. search needs)
     returns-3
     returns-4
-    overlap-requires
+    (λ c κs. search needs)
     returns-5)

@@ -6,15 +6,9 @@ use borrow.Author.Needs.{needs}
 use Rattle.layout.proofs.start.pending_bytes.Statement.{statement}
 use Rattle.layout.proofs.start.pending_bytes.Tie as tie
 
-add-result : tie.Need-add-result
-add-result c = search needs
-
-mul-result : tie.Need-mul-result
-mul-result c = search needs
-
 returns : tie.Need-returns
 unfolding pendingBytes
 returns c = (refl, omega arith)
 
 pub pending-bytes-spec : {M : Type 1} → statement M
-pending-bytes-spec = tie.close (tie.spec add-result mul-result returns)
+pending-bytes-spec = tie.close (tie.spec (λ c. search needs) (λ c. search needs) returns)

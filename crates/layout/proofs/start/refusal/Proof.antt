@@ -79,17 +79,11 @@ past-7 c = past-6 (c .before) ∙ row-passes 16 _ (ap not (eq-eqb _ _ (c .if7 .l
 past-8 : (c : tie.Else8) → Left (start₈ c) 8
 past-8 c = past-7 (c .before .before) ∙ row-passes 17 _ (sym (c .before .bad-buffers .ensures) ∙ c .if8 .left)
 
-bad-header-requires : tie.Need-bad-header-requires
-bad-header-requires c κs = search needs
-
 returns : tie.Need-returns
 returns c = sym (past-0 (c .before .before) ∙ row-refuses 10 _ (sym (c .before .bad-header .ensures) ∙ c .if1 .taken))
 
 returns-2 : tie.Need-returns-2
 returns-2 c = sym (past-1 (c .before) ∙ row-refuses 11 _ (c .if2 .taken))
-
-listed-twice-requires : tie.Need-listed-twice-requires
-listed-twice-requires c κs = search needs
 
 returns-3 : tie.Need-returns-3
 returns-3 c = sym (past-2 (c .before .before) ∙ row-refuses 12 _ (sym (c .before .listed-twice .ensures) ∙ c .if3 .taken))
@@ -103,23 +97,14 @@ bad-structures-requires c κs =
 returns-4 : tie.Need-returns-4
 returns-4 c = sym (past-3 (c .before .before) ∙ row-refuses 13 _ (sym (c .before .bad-structures .ensures) ∙ c .if4 .taken))
 
-bad-regions-requires : tie.Need-bad-regions-requires
-bad-regions-requires c κs = search needs
-
 returns-5 : tie.Need-returns-5
 returns-5 c = sym (past-4 (c .before .before) ∙ row-refuses 14 _ (sym (c .before .bad-regions .ensures) ∙ c .if5 .taken))
-
-bad-events-requires : tie.Need-bad-events-requires
-bad-events-requires c κs = search needs
 
 returns-6 : tie.Need-returns-6
 returns-6 c = sym (past-5 (c .before .before) ∙ row-refuses 15 _ (sym (c .before .bad-events .ensures) ∙ c .if6 .taken))
 
 returns-7 : tie.Need-returns-7
 returns-7 c = sym (past-6 (c .before) ∙ row-refuses 16 _ (ap not (ne-eqb _ _ (c .if7 .taken))))
-
-bad-buffers-requires : tie.Need-bad-buffers-requires
-bad-buffers-requires c κs = search needs
 
 returns-8 : tie.Need-returns-8
 returns-8 c = sym (past-7 (c .before .before) ∙ row-refuses 17 _ (sym (c .before .bad-buffers .ensures) ∙ c .if8 .taken))
@@ -132,18 +117,18 @@ pub refusal-spec : {M : Type 1} → statement M
 refusal-spec =
     tie.close
     (tie.spec
-    bad-header-requires
+    (λ c κs. search needs)
     returns
     returns-2
-    listed-twice-requires
+    (λ c κs. search needs)
     returns-3
     bad-structures-requires
     returns-4
-    bad-regions-requires
+    (λ c κs. search needs)
     returns-5
-    bad-events-requires
+    (λ c κs. search needs)
     returns-6
     returns-7
-    bad-buffers-requires
+    (λ c κs. search needs)
     returns-8
     returns-9)

@@ -6,12 +6,9 @@ use borrow.Author.Needs.{needs}
 use Rattle.layout.proofs.start.table_bytes.Statement.{statement}
 use Rattle.layout.proofs.start.table_bytes.Tie as tie
 
-mul-result : tie.Need-mul-result
-mul-result c = search needs
-
 returns : tie.Need-returns
 unfolding tableBytes
 returns c = (refl, omega arith)
 
 pub table-bytes-spec : {M : Type 1} → statement M
-table-bytes-spec = tie.close (tie.spec mul-result returns)
+table-bytes-spec = tie.close (tie.spec (λ c. search needs) returns)

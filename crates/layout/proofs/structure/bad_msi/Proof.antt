@@ -18,9 +18,6 @@ returns-2 c =
     let start = at-if1 .before .before in
     rw (msi-there (start .args .s) (at-if1 .if1 .left), lt-ltb _ _ (c .if2 .taken))
 
-misplaced-requires : tie.Need-misplaced-requires
-misplaced-requires c κs = search needs
-
 returns-3 : tie.Need-returns-3
 unfolding badMsi
 returns-3 c =
@@ -29,4 +26,4 @@ returns-3 c =
     c .misplaced .ensures ∙ rw (msi-there (start .args .s) (at-if1 .if1 .left), le-ltb _ _ (c .before .if2 .left))
 
 pub bad-msi-spec : {M : Type 1} → statement M
-bad-msi-spec = tie.close (tie.spec returns returns-2 misplaced-requires returns-3)
+bad-msi-spec = tie.close (tie.spec returns returns-2 (λ c κs. search needs) returns-3)

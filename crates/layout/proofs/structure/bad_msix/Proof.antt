@@ -10,12 +10,9 @@ returns : tie.Need-returns
 unfolding badMsix
 returns c = rw (msix-absent (c .before .before .args .s) (c .if1 .taken))
 
-misplaced-requires : tie.Need-misplaced-requires
-misplaced-requires c κs = search needs
-
 returns-2 : tie.Need-returns-2
 unfolding badMsix
 returns-2 c = c .misplaced .ensures ∙ rw (msix-there (c .before .before .before .args .s) (c .before .if1 .left))
 
 pub bad-msix-spec : {M : Type 1} → statement M
-bad-msix-spec = tie.close (tie.spec returns misplaced-requires returns-2)
+bad-msix-spec = tie.close (tie.spec returns (λ c κs. search needs) returns-2)

@@ -17,9 +17,6 @@ returns-2 c =
     let start = at-if1 .before .before in
     rw (msi-there (start .args .s) (at-if1 .if1 .left), msix-absent (start .args .s) (c .if2 .taken))
 
-overlap-requires : tie.Need-overlap-requires
-overlap-requires c κs = search needs
-
 returns-3 : tie.Need-returns-3
 unfolding badPair
 returns-3 c =
@@ -29,4 +26,4 @@ returns-3 c =
     c .overlap .ensures ∙ rw (msi-there s (at-if1 .if1 .left), msix-there s (c .before .if2 .left))
 
 pub bad-pair-spec : {M : Type 1} → statement M
-bad-pair-spec = tie.close (tie.spec returns returns-2 overlap-requires returns-3)
+bad-pair-spec = tie.close (tie.spec returns returns-2 (λ c κs. search needs) returns-3)

@@ -28,9 +28,6 @@ returns c =
     let a = start .args in
     part-1 (listed (capabilities (now (a .c)))) (a .s) (a .f .size) (size-is start) (sym (c .before .bad-msi .ensures) ∙ c .if1 .taken)
 
-bad-msix-requires : tie.Need-bad-msix-requires
-bad-msix-requires c κs = search needs
-
 returns-2 : tie.Need-returns-2
 returns-2 c =
     let at-bad-msix = c .before in
@@ -61,7 +58,7 @@ bad-structures-spec =
     (tie.spec
     bad-msi-requires
     returns
-    bad-msix-requires
+    (λ c κs. search needs)
     returns-2
     bad-pair-requires
     returns-3)

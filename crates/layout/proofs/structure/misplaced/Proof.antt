@@ -25,16 +25,10 @@ Inv-loop c a n p₀ k₀ p k =
 abbrev μ-loop : tie.MeasureT-loop
 μ-loop c a n p₀ k₀ p k = 48 - k
 
-add-if1 : tie.Need-add-if1 Inv-loop μ-loop
-add-if1 c = search needs
-
 returns : tie.Need-returns Inv-loop μ-loop
 returns c =
     let s = c .before .args in
     runs-past (listed (capabilities (now (s .c)))) (s .a) (s .n) (c .if1 .taken)
-
-first-pointer-requires : tie.Need-first-pointer-requires Inv-loop μ-loop
-first-pointer-requires c κs = search needs
 
 loop-holds : tie.Need-loop-holds Inv-loop μ-loop
 loop-holds c =
@@ -42,9 +36,6 @@ loop-holds c =
     let f = now (s .c) in
     let e : walk f 48 (c .first-pointer .result) ≡ capabilities f = ap (walk f 48) (c .first-pointer .ensures) ∙ from-first f in
     (omega arith, ap broken e ∙ c .before .before .pre .0, ap (λ (w : Option (List ℕ)). all (apart (s .a) (s .n)) (listed w)) e)
-
-place-requires : tie.Need-place-requires Inv-loop μ-loop
-place-requires c κs = search needs
 
 -- the structure ends by byte FFh, so the headers of the list decide
 module _ (c : tie.At-loop Inv-loop μ-loop) where
@@ -70,9 +61,6 @@ returns-2 c =
     (test-ends (now (a .c)) (apart (a .a) (a .n)) (v .k) (v .p) (at-place .place .result) _ (at-place .place .ensures .0) (v .inv .1) (v .inv .2)
     (c .if2 .taken))
 
-apart-requires : tie.Need-apart-requires Inv-loop μ-loop
-apart-requires c κs = search needs
-
 returns-3 : tie.Need-returns-3 Inv-loop μ-loop
 returns-3 c =
     let at-if2 = c .before .before in
@@ -85,18 +73,6 @@ returns-3 c =
     (test-fails (now (a .c)) (apart (a .a) (a .n)) (v .k) (v .p) (at-place .place .result) _ (at-place .place .ensures .0) (v .inv .1) (v .inv .2)
     (in-loop .loop-test .taken) (at-if2 .if2 .left)
     (sym (c .before .apart .ensures) ∙ not-true _ (c .if3 .taken)))
-
-add-p : tie.Need-add-p Inv-loop μ-loop
-add-p c = search needs
-
-element-copy-out-p : tie.Need-element-copy-out-p Inv-loop μ-loop
-element-copy-out-p c = search needs
-
-add-k : tie.Need-add-k Inv-loop μ-loop
-add-k c = search needs
-
-loop-less : tie.Need-loop-less Inv-loop μ-loop
-loop-less c = search needs
 
 loop-again : tie.Need-loop-again Inv-loop μ-loop
 loop-again c =
@@ -127,17 +103,14 @@ misplaced-spec =
     (tie.spec
     Inv-loop
     μ-loop
-    add-if1
+    (λ c. search needs)
     returns
-    first-pointer-requires
+    (λ c κs. search needs)
     loop-holds
-    place-requires
+    (λ c κs. search needs)
     returns-2
-    apart-requires
+    (λ c κs. search needs)
     returns-3
-    add-p
-    element-copy-out-p
-    add-k
-    loop-less
+    (λ c. search needs) (λ c. search needs) (λ c. search needs) (λ c. search needs)
     loop-again
     returns-4)

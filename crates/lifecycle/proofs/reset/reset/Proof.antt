@@ -4,18 +4,6 @@ use borrow.Author.Needs.{needs}
 use Rattle.lifecycle.proofs.reset.reset.Statement.{statement}
 use Rattle.lifecycle.proofs.reset.reset.Tie as tie
 
-check-requires : tie.Need-check-requires
-check-requires c κs = search needs
-
-refused-requires : tie.Need-refused-requires
-refused-requires c κs = search needs
-
-same-length : tie.Need-same-length
-same-length c = search needs
-
-same-length-2 : tie.Need-same-length-2
-same-length-2 c = search needs
-
 returns : tie.Need-returns
 returns c =
     let at-if1 = c .before in
@@ -28,15 +16,6 @@ reset-core-requires c κs =
     let at-check = at-if1 .before .before in
     (frame-runs (at-check .check .ensures) (at-if1 .if1 .left), frame-wires (at-check .check .ensures) (at-if1 .if1 .left))
 
-same-length-3 : tie.Need-same-length-3
-same-length-3 c = search needs
-
-same-length-4 : tie.Need-same-length-4
-same-length-4 c = search needs
-
-same-length-5 : tie.Need-same-length-5
-same-length-5 c = search needs
-
 returns-2 : tie.Need-returns-2
 returns-2 c =
     let at-core = c .before .before .before .before .before .before in
@@ -48,13 +27,8 @@ pub reset-spec : {M : Type 1} → statement M
 reset-spec =
     tie.close
     (tie.spec
-    check-requires
-    refused-requires
-    same-length
-    same-length-2
+    (λ c κs. search needs) (λ c κs. search needs) (λ c. search needs) (λ c. search needs)
     returns
     reset-core-requires
-    same-length-3
-    same-length-4
-    same-length-5
+    (λ c. search needs) (λ c. search needs) (λ c. search needs)
     returns-2)

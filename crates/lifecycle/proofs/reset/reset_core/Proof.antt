@@ -6,12 +6,6 @@ use borrow.Author.Needs.{needs}
 use Rattle.lifecycle.proofs.reset.reset_core.Statement.{statement}
 use Rattle.lifecycle.proofs.reset.reset_core.Tie as tie
 
-set-wire-requires : tie.Need-set-wire-requires
-set-wire-requires c κs = search needs
-
-owed-size-requires : tie.Need-owed-size-requires
-owed-size-requires c κs = search needs
-
 -- the packet owed and its size are known
 module _ (c : tie.After-owed-size) where
   abbrev at-set-wire : tie.After-set-wire
@@ -19,9 +13,6 @@ module _ (c : tie.After-owed-size) where
 
   abbrev start : tie.Start
   start = let entry = at-set-wire .before .before in entry .before .before .before
-
-refused-requires : tie.Need-refused-requires
-refused-requires c κs = search needs
 
 returns : tie.Need-returns
 returns c =
@@ -44,18 +35,6 @@ started-requires c κs =
     let run = start (at-if1 .before) .pre .0 in
     (run .shaped, running-fit run, run .profiled .form)
 
-accepted-requires : tie.Need-accepted-requires
-accepted-requires c κs = search needs
-
-same-length : tie.Need-same-length
-same-length c = search needs
-
-same-length-2 : tie.Need-same-length-2
-same-length-2 c = search needs
-
-same-length-3 : tie.Need-same-length-3
-same-length-3 c = search needs
-
 returns-2 : tie.Need-returns-2
 returns-2 c =
     let at-started = c .before .before .before .before .before in
@@ -69,14 +48,9 @@ pub reset-core-spec : {M : Type 1} → statement M
 reset-core-spec =
     tie.close
     (tie.spec
-    set-wire-requires
-    owed-size-requires
-    refused-requires
+    (λ c κs. search needs) (λ c κs. search needs) (λ c κs. search needs)
     returns
     send-requires
     started-requires
-    accepted-requires
-    same-length
-    same-length-2
-    same-length-3
+    (λ c κs. search needs) (λ c. search needs) (λ c. search needs) (λ c. search needs)
     returns-2)

@@ -4,15 +4,6 @@ use borrow.Author.Needs.{needs}
 use Rattle.lifecycle.proofs.start.start.Statement.{statement}
 use Rattle.lifecycle.proofs.start.start.Tie as tie
 
-check-start-requires : tie.Need-check-start-requires
-check-start-requires c κs = search needs
-
-zero-card-requires : tie.Need-zero-card-requires
-zero-card-requires c κs = search needs
-
-refused-requires : tie.Need-refused-requires
-refused-requires c κs = search needs
-
 returns : tie.Need-returns
 returns c =
     let at-zero-card = c .before in
@@ -26,15 +17,6 @@ started-requires c κs =
     let told = at-if1 .before .before .check-start .ensures in
     (told .1, start-fits _ _ _ (told .0) (at-if1 .if1 .left) (told .1), told .3)
 
-accepted-requires : tie.Need-accepted-requires
-accepted-requires c κs = search needs
-
-same-length : tie.Need-same-length
-same-length c = search needs
-
-same-length-2 : tie.Need-same-length-2
-same-length-2 c = search needs
-
 returns-2 : tie.Need-returns-2
 returns-2 c =
     let at-started = c .before .before .before .before .before in
@@ -46,12 +28,8 @@ pub start-spec : {M : Type 1} → statement M
 start-spec =
     tie.close
     (tie.spec
-    check-start-requires
-    zero-card-requires
-    refused-requires
+    (λ c κs. search needs) (λ c κs. search needs) (λ c κs. search needs)
     returns
     started-requires
-    accepted-requires
-    same-length
-    same-length-2
+    (λ c κs. search needs) (λ c. search needs) (λ c. search needs)
     returns-2)

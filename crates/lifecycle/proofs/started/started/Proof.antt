@@ -16,15 +16,6 @@ started-table-requires c κs =
     let start = c .before .before .before .before .before in
     table-room _ _ _ (start .pre .1)
 
-fill-requires : tie.Need-fill-requires
-fill-requires c κs = search needs
-
-same-length : tie.Need-same-length
-same-length c = search needs
-
-same-length-2 : tie.Need-same-length-2
-same-length-2 c = search needs
-
 returns : tie.Need-returns
 returns c =
     let at-fill = c .before .before in
@@ -41,7 +32,5 @@ started-spec =
     (tie.spec
     started-config-requires
     started-table-requires
-    fill-requires
-    same-length
-    same-length-2
+    (λ c κs. search needs) (λ c. search needs) (λ c. search needs)
     returns)

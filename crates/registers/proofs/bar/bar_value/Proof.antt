@@ -50,9 +50,6 @@ in-pending c =
     let a = s .args in
     pending-inside (a .offset) (a .n) (s .pre .2) (a .s) (s .pre .1) (a .bar) (other c)
 
-in-table-requires : tie.Need-in-table-requires
-in-table-requires c κs = search needs
-
 sub-read : tie.Need-sub-read
 sub-read c = in-table (c .before) .0
 
@@ -88,7 +85,7 @@ pub bar-value-spec : {M : Type 1} → statement M
 bar-value-spec =
     tie.close
     (tie.spec
-    in-table-requires
+    (λ c κs. search needs)
     sub-read
     read-requires
     returns

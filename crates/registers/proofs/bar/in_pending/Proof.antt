@@ -8,12 +8,6 @@ use borrow.Author.Needs.{needs}
 use Rattle.registers.proofs.bar.in_pending.Statement.{statement}
 use Rattle.registers.proofs.bar.in_pending.Tie as tie
 
-pending-bytes-requires : tie.Need-pending-bytes-requires
-pending-bytes-requires c κs = search needs
-
-in-region-requires : tie.Need-in-region-requires
-in-region-requires c κs = search needs
-
 returns : tie.Need-returns
 unfolding inPending msixPresent
 returns c =
@@ -21,4 +15,4 @@ returns c =
     c .in-region .ensures ∙ ap (λ (n : ℕ). msixPresent (a .s) && inRegion (a .s .msix .pending) n (a .bar) (a .offset)) (c .before .pending-bytes .ensures .0)
 
 pub in-pending-spec : {M : Type 1} → statement M
-in-pending-spec = tie.close (tie.spec pending-bytes-requires in-region-requires returns)
+in-pending-spec = tie.close (tie.spec (λ c κs. search needs) (λ c κs. search needs) returns)

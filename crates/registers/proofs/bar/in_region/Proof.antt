@@ -14,12 +14,9 @@ returns-2 : tie.Need-returns-2
 unfolding inRegion
 returns-2 c = rw (ne-eqb _ _ (c .before .before .if1 .left), ne-eqb _ _ (c .if2 .taken))
 
-within-requires : tie.Need-within-requires
-within-requires c κs = search needs
-
 returns-3 : tie.Need-returns-3
 unfolding inRegion
 returns-3 c = c .within .ensures ∙ rw (ne-eqb _ _ (c .before .before .before .if1 .left), eq-eqb _ _ (c .before .if2 .left))
 
 pub in-region-spec : {M : Type 1} → statement M
-in-region-spec = tie.close (tie.spec returns returns-2 within-requires returns-3)
+in-region-spec = tie.close (tie.spec returns returns-2 (λ c κs. search needs) returns-3)

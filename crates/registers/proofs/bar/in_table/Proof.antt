@@ -8,12 +8,6 @@ use borrow.Author.Needs.{needs}
 use Rattle.registers.proofs.bar.in_table.Statement.{statement}
 use Rattle.registers.proofs.bar.in_table.Tie as tie
 
-table-bytes-requires : tie.Need-table-bytes-requires
-table-bytes-requires c κs = search needs
-
-in-region-requires : tie.Need-in-region-requires
-in-region-requires c κs = search needs
-
 returns : tie.Need-returns
 unfolding inTable msixPresent
 returns c =
@@ -21,4 +15,4 @@ returns c =
     c .in-region .ensures ∙ ap (λ (n : ℕ). msixPresent (a .s) && inRegion (a .s .msix .table) n (a .bar) (a .offset)) (c .before .table-bytes .ensures .0)
 
 pub in-table-spec : {M : Type 1} → statement M
-in-table-spec = tie.close (tie.spec table-bytes-requires in-region-requires returns)
+in-table-spec = tie.close (tie.spec (λ c κs. search needs) (λ c κs. search needs) returns)

@@ -33,9 +33,6 @@ module _ (c : tie.Else4) where
       let g : start .args .f .pending ≡ formOf s .pending = ap (λ (f : Form). f .pending) (start .pre .2) in
       (omega (arith, m .next, m .last, start .pre .1 .ends), omega (arith, m .last, start .pre .1 .ends))
 
-shared-slice-read-if1 : tie.Need-shared-slice-read-if1
-shared-slice-read-if1 c = search needs
-
 returns : tie.Need-returns
 returns c =
     let start = c .before .before .before in
@@ -47,9 +44,6 @@ returns-2 c =
     let start = c .before .before .before .before in
     let a = start .args in
     absent (a .s) (now (a .c)) (start .pre .0) (c .before .if1 .left) (c .if2 .taken)
-
-add-if3 : tie.Need-add-if3
-add-if3 c = search needs
 
 shared-slice-read-if3 : tie.Need-shared-slice-read-if3
 shared-slice-read-if3 c =
@@ -80,9 +74,6 @@ word32-requires : tie.Need-word32-requires
 word32-requires c κs =
     omega (arith, room (c .before) .0, start (c .before) .pre .0)
 
-mask-bits-requires : tie.Need-mask-bits-requires
-mask-bits-requires c κs = search needs
-
 add-word32-2 : tie.Need-add-word32-2
 add-word32-2 c =
     let at-if4 = c .before .before .before .before in
@@ -111,16 +102,16 @@ pub bytes-clean-spec : {M : Type 1} → statement M
 bytes-clean-spec =
     tie.close
     (tie.spec
-    shared-slice-read-if1
+    (λ c. search needs)
     returns
     returns-2
-    add-if3
+    (λ c. search needs)
     shared-slice-read-if3
     returns-3
     returns-4
     add-word32
     word32-requires
-    mask-bits-requires
+    (λ c κs. search needs)
     add-word32-2
     word32-requires-2
     returns-5)

@@ -53,9 +53,6 @@ loop-holds : tie.Need-loop-holds Inv-loop μ-loop
 unfolding number
 loop-holds c = (omega arith, rw sub-self)
 
-sub-left : tie.Need-sub-left Inv-loop μ-loop
-sub-left c = search needs
-
 add-i : tie.Need-add-i Inv-loop μ-loop
 add-i c = omega (arith, start (c .before .before) .pre .1 .within)
 
@@ -73,14 +70,8 @@ shown-byte-requires c κs =
     let k = start entry .pre .1 in
     (k .ends, k .form, λ e. rw e (room entry))
 
-cast-r : tie.Need-cast-r Inv-loop μ-loop
-cast-r c = search needs
-
 add-r : tie.Need-add-r Inv-loop μ-loop
 add-r c = omega (arith, small (c .before .before))
-
-loop-less : tie.Need-loop-less Inv-loop μ-loop
-loop-less c = search needs
 
 loop-again : tie.Need-loop-again Inv-loop μ-loop
 loop-again c =
@@ -110,13 +101,13 @@ bytes-value-spec =
     Inv-loop
     μ-loop
     loop-holds
-    sub-left
+    (λ c. search needs)
     add-i
     mul-r
     shared-slice-read-shown-byte
     shown-byte-requires
-    cast-r
+    (λ c. search needs)
     add-r
-    loop-less
+    (λ c. search needs)
     loop-again
     returns)

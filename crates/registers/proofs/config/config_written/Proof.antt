@@ -22,30 +22,6 @@ abbrev μ-loop : tie.MeasureT-loop
 loop-holds : tie.Need-loop-holds Inv-loop μ-loop
 loop-holds c = (omega arith, search needs, rw (add-zero, sub-zero))
 
-add-k : tie.Need-add-k Inv-loop μ-loop
-add-k c = search needs
-
-writable-requires : tie.Need-writable-requires Inv-loop μ-loop
-writable-requires c κs = search needs
-
-array-read-merge : tie.Need-array-read-merge Inv-loop μ-loop
-array-read-merge c = search needs
-
-cast-merge : tie.Need-cast-merge Inv-loop μ-loop
-cast-merge c = search needs
-
-merge-requires : tie.Need-merge-requires Inv-loop μ-loop
-merge-requires c κs = search needs
-
-array-write-config : tie.Need-array-write-config Inv-loop μ-loop
-array-write-config c = search needs
-
-add-i : tie.Need-add-i Inv-loop μ-loop
-add-i c = search needs
-
-loop-less : tie.Need-loop-less Inv-loop μ-loop
-loop-less c = search needs
-
 loop-again : tie.Need-loop-again Inv-loop μ-loop
 loop-again c =
     let at-loop = c .before .before .before in
@@ -71,13 +47,7 @@ config-written-spec =
     Inv-loop
     μ-loop
     loop-holds
-    add-k
-    writable-requires
-    array-read-merge
-    cast-merge
-    merge-requires
-    array-write-config
-    add-i
-    loop-less
+    (λ c. search needs) (λ c κs. search needs) (λ c. search needs) (λ c. search needs) (λ c κs. search needs)
+    (λ c. search needs) (λ c. search needs) (λ c. search needs)
     loop-again
     returns)

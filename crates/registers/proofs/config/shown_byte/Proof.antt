@@ -56,9 +56,6 @@ add-at c =
     let s = start at-if3 in
     omega (arith, s .pre .0, pending-fits (s .args .s) (s .args .f) (s .pre .1) (not-false _ (at-if2 at-if3 .if2 .left)))
 
-within-requires : tie.Need-within-requires
-within-requires c κs = search needs
-
 sub-byte-of : tie.Need-sub-byte-of
 sub-byte-of c = in-register c .0
 
@@ -90,7 +87,7 @@ shown-byte-spec =
     returns-2
     returns-3
     add-at
-    within-requires
+    (λ c κs. search needs)
     sub-byte-of
     byte-of-requires
     returns-4

@@ -5,9 +5,6 @@ use borrow.Author.Needs.{needs}
 use Rattle.registers.proofs.config.status.Statement.{statement}
 use Rattle.registers.proofs.config.status.Tie as tie
 
-add-result : tie.Need-add-result
-add-result c = search needs
-
 returns : tie.Need-returns
 unfolding ofBool
 returns c = rw (c .if1 .taken)
@@ -17,4 +14,4 @@ unfolding ofBool
 returns-2 c = rw (c .if1 .left, add-zero)
 
 pub status-spec : {M : Type 1} → statement M
-status-spec = tie.close (tie.spec add-result returns returns-2)
+status-spec = tie.close (tie.spec (λ c. search needs) returns returns-2)

@@ -21,15 +21,6 @@ whole k h = ap (λ (n : ℕ). (1 * 2 ^ n) % 18446744073709551616) (bits k h) ∙
 fits : (k : ℕ) → k ≤ 5 → 2 ^ (2 ^ k) ≤ 4294967296
 fits k h = pow-mono (small k h)
 
-cast-bits : tie.Need-cast-bits
-cast-bits c = search needs
-
-shl-bits : tie.Need-shl-bits
-shl-bits c = search needs
-
-cast-result : tie.Need-cast-result
-cast-result c = search needs
-
 shl-result : tie.Need-shl-result
 shl-result c = omega (arith, bits (c .before .args .s .msi .capable) (c .before .pre), small (c .before .args .s .msi .capable) (c .before .pre))
 
@@ -44,4 +35,4 @@ returns c = ap (λ (n : ℕ). n - 1) (whole (c .before .args .s .msi .capable) (
 
 pub mask-bits-spec : {M : Type 1} → statement M
 mask-bits-spec =
-    tie.close (tie.spec cast-bits shl-bits cast-result shl-result sub-result cast-result-2 returns)
+    tie.close (tie.spec (λ c. search needs) (λ c. search needs) (λ c. search needs) shl-result sub-result cast-result-2 returns)

@@ -7,15 +7,9 @@ use borrow.Author.Needs.{needs}
 use Rattle.registers.proofs.masks.mask_byte.Statement.{statement}
 use Rattle.registers.proofs.masks.mask_byte.Tie as tie
 
-mask-bits-requires : tie.Need-mask-bits-requires
-mask-bits-requires c κs = search needs
-
-byte-of-requires : tie.Need-byte-of-requires
-byte-of-requires c κs = search needs
-
 returns : tie.Need-returns
 unfolding maskBytes
 returns c = c .byte-of .ensures ∙ ap (λ (x : ℕ). byte (bytesOf 4 x) (c .before .before .args .k)) (c .before .mask-bits .ensures)
 
 pub mask-byte-spec : {M : Type 1} → statement M
-mask-byte-spec = tie.close (tie.spec mask-bits-requires byte-of-requires returns)
+mask-byte-spec = tie.close (tie.spec (λ c κs. search needs) (λ c κs. search needs) returns)

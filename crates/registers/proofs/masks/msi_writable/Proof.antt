@@ -36,18 +36,12 @@ returns-3 c =
     let a = c .before .before .args in
     sym (address-writable (a .s) (a .k) (c .if3 .taken))
 
-sub-if4 : tie.Need-sub-if4
-sub-if4 c = search needs
-
 returns-4 : tie.Need-returns-4
 returns-4 c =
     let past-3 = c .before .before in
     let begin = past-3 .before .before in
     let a = begin .args in
     data-byte (a .s) (a .f) (begin .pre .1) (a .k) (omega (arith, past-3 .if3 .left)) (c .if4 .taken)
-
-within-requires : tie.Need-within-requires
-within-requires c κs = search needs
 
 sub-mask-byte : tie.Need-sub-mask-byte
 sub-mask-byte c = in-mask (c .before .before) (c .before .if5 .taken) .0
@@ -81,9 +75,9 @@ msi-writable-spec =
     returns
     returns-2
     returns-3
-    sub-if4
+    (λ c. search needs)
     returns-4
-    within-requires
+    (λ c κs. search needs)
     sub-mask-byte
     mask-byte-requires
     returns-5

@@ -31,9 +31,6 @@ returns-2 c =
     let a = c .before .before .args in
     sym (low-zero (a .s) (a .k) (c .before .if1 .taken) ∙ rw (ne-eqb _ _ (c .if2 .left)))
 
-within-requires : tie.Need-within-requires
-within-requires c κs = search needs
-
 sub-mask-byte : tie.Need-sub-mask-byte
 sub-mask-byte c = in-mask (c .before .before) (c .before .if3 .taken) .0
 
@@ -51,9 +48,6 @@ returns-3 c =
     let a = start at-within .args in
     ap (λ (x : ℕ). 0xff - x) (c .mask-byte .ensures) ∙ clear-ones 8 _ (bytesOf-lt 4 _ (a .k - a .f .mask))
     ∙ shut-mask (a .s) (a .f) (start at-within .pre .1) (a .k) (at-within .before .if1 .left) (sym (at-within .within .ensures) ∙ at-if3 .if3 .taken)
-
-within-requires-2 : tie.Need-within-requires-2
-within-requires-2 c κs = search needs
 
 -- behind the Mask register
 module _ (c : tie.After-within2) where
@@ -76,10 +70,10 @@ msi-zero-spec =
     (tie.spec
     returns
     returns-2
-    within-requires
+    (λ c κs. search needs)
     sub-mask-byte
     mask-byte-requires
     returns-3
-    within-requires-2
+    (λ c κs. search needs)
     returns-4
     returns-5)

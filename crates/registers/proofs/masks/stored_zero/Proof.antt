@@ -18,18 +18,12 @@ returns-2 c =
     let a = c .before .before .args in
     sym (header-byte (a .s) (a .i) (c .before .if1 .taken) .1 ∙ rw (ne-eqb _ _ (c .if2 .left)))
 
-within-requires : tie.Need-within-requires
-within-requires c κs = search needs
-
 sub-msi-zero : tie.Need-sub-msi-zero
 sub-msi-zero c =
     let at-within = c .before .before in
     let start = at-within .before .before in
     let a = start .args in
     within-true (a .s .msi .at) _ (a .i) (sym (at-within .within .ensures) ∙ c .before .if3 .taken) .0
-
-msi-zero-requires : tie.Need-msi-zero-requires
-msi-zero-requires c κs = search needs
 
 returns-3 : tie.Need-returns-3
 returns-3 c =
@@ -50,4 +44,4 @@ returns-4 c =
 pub stored-zero-spec : {M : Type 1} → statement M
 stored-zero-spec =
     tie.close
-    (tie.spec returns returns-2 within-requires sub-msi-zero msi-zero-requires returns-3 returns-4)
+    (tie.spec returns returns-2 (λ c κs. search needs) sub-msi-zero (λ c κs. search needs) returns-3 returns-4)

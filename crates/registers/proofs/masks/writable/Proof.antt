@@ -25,16 +25,10 @@ module _ (c : tie.Else2) where
       let size = ap (λ (f : Form). f .size) (start .pre .1) in
       other-byte (a .s) (a .i) (a .f .size) size (c .before .before .if1 .left) (sym (c .before .within .ensures) ∙ c .if2 .left) .0
 
-header-writable-requires : tie.Need-header-writable-requires
-header-writable-requires c κs = search needs
-
 returns : tie.Need-returns
 returns c =
     let a = c .before .before .args in
     c .header-writable .ensures ∙ sym (header-byte (a .s) (a .i) (c .before .if1 .taken) .0)
-
-within-requires : tie.Need-within-requires
-within-requires c κs = search needs
 
 sub-msi-writable : tie.Need-sub-msi-writable
 sub-msi-writable c =
@@ -42,9 +36,6 @@ sub-msi-writable c =
     let start = at-within .before .before in
     let a = start .args in
     within-true (a .s .msi .at) _ (a .i) (sym (at-within .within .ensures) ∙ c .before .if2 .taken) .0
-
-msi-writable-requires : tie.Need-msi-writable-requires
-msi-writable-requires c κs = search needs
 
 returns-2 : tie.Need-returns-2
 returns-2 c =
@@ -55,9 +46,6 @@ returns-2 c =
     let a = start .args in
     let size = ap (λ (f : Form). f .size) (start .pre .1) in
     c .msi-writable .ensures ∙ sym (msi-byte (a .s) (a .i) (a .f .size) size (at-if1 .if1 .left) (sym (at-within .within .ensures) ∙ at-if2 .if2 .taken) .0)
-
-within-requires-2 : tie.Need-within-requires-2
-within-requires-2 c κs = search needs
 
 sub-if4 : tie.Need-sub-if4
 sub-if4 c =
@@ -84,13 +72,13 @@ pub writable-spec : {M : Type 1} → statement M
 writable-spec =
     tie.close
     (tie.spec
-    header-writable-requires
+    (λ c κs. search needs)
     returns
-    within-requires
+    (λ c κs. search needs)
     sub-msi-writable
-    msi-writable-requires
+    (λ c κs. search needs)
     returns-2
-    within-requires-2
+    (λ c κs. search needs)
     sub-if4
     returns-3
     returns-4

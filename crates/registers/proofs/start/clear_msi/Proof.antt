@@ -29,47 +29,17 @@ module _ (c : tie.After-zero-part) where
   abbrev fixed : tie.After-fix-part
   fixed = let known2 = at-part-end3 .before .before in known2 .before .before
 
-part-end-requires : tie.Need-part-end-requires
-part-end-requires c κs = search needs
-
-part-end-requires-2 : tie.Need-part-end-requires-2
-part-end-requires-2 c κs = search needs
-
-fix-part-requires : tie.Need-fix-part-requires
-fix-part-requires c κs = search needs
-
-part-end-requires-3 : tie.Need-part-end-requires-3
-part-end-requires-3 c κs = search needs
-
 add-part-end : tie.Need-add-part-end
 add-part-end c =
     let known2 = c .before .before .before in
     let begin = start (known2 .before .before) in
     omega (arith, message-small (begin .args .s) (begin .args .f) (begin .pre .3))
 
-part-end-requires-4 : tie.Need-part-end-requires-4
-part-end-requires-4 c κs = search needs
-
-zero-part-requires : tie.Need-zero-part-requires
-zero-part-requires c κs = search needs
-
 add-part-end-2 : tie.Need-add-part-end-2
 add-part-end-2 c =
     let known3 = c .before .before in
     let begin = start (fixed (known3 .before .before)) in
     omega (arith, message-small (begin .args .s) (begin .args .f) (begin .pre .3))
-
-part-end-requires-5 : tie.Need-part-end-requires-5
-part-end-requires-5 c κs = search needs
-
-part-end-requires-6 : tie.Need-part-end-requires-6
-part-end-requires-6 c κs = search needs
-
-zero-part-requires-2 : tie.Need-zero-part-requires-2
-zero-part-requires-2 c κs = search needs
-
-same-length : tie.Need-same-length
-same-length c = search needs
 
 returns : tie.Need-returns
 returns c =
@@ -95,16 +65,9 @@ pub clear-msi-spec : {M : Type 1} → statement M
 clear-msi-spec =
     tie.close
     (tie.spec
-    part-end-requires
-    part-end-requires-2
-    fix-part-requires
-    part-end-requires-3
+    (λ c κs. search needs) (λ c κs. search needs) (λ c κs. search needs) (λ c κs. search needs)
     add-part-end
-    part-end-requires-4
-    zero-part-requires
+    (λ c κs. search needs) (λ c κs. search needs)
     add-part-end-2
-    part-end-requires-5
-    part-end-requires-6
-    zero-part-requires-2
-    same-length
+    (λ c κs. search needs) (λ c κs. search needs) (λ c κs. search needs) (λ c. search needs)
     returns)

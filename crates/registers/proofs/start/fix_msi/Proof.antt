@@ -8,15 +8,6 @@ use borrow.Author.Needs.{needs}
 use Rattle.registers.proofs.start.fix_msi.Statement.{statement}
 use Rattle.registers.proofs.start.fix_msi.Tie as tie
 
-part-end-requires : tie.Need-part-end-requires
-part-end-requires c κs = search needs
-
-fix-part-requires : tie.Need-fix-part-requires
-fix-part-requires c κs = search needs
-
-same-length : tie.Need-same-length
-same-length c = search needs
-
 returns : tie.Need-returns
 returns c =
     let at-fix-part = c .before .before in
@@ -27,12 +18,6 @@ returns c =
     let lo : 64 ≡ max 64 (a .s .msi .at) = omega (arith, at-then .if1 .taken) in
     λ k. at-fix-part .fix-part .ensures k
     ∙ ap₂ (λ (l h : ℕ). partFixed (a .s) l h (now (a .config)) k) lo (at-part-end .part-end .ensures)
-
-clear-msi-requires : tie.Need-clear-msi-requires
-clear-msi-requires c κs = search needs
-
-same-length-2 : tie.Need-same-length-2
-same-length-2 c = search needs
 
 returns-2 : tie.Need-returns-2
 returns-2 c =
@@ -48,10 +33,7 @@ pub fix-msi-spec : {M : Type 1} → statement M
 fix-msi-spec =
     tie.close
     (tie.spec
-    part-end-requires
-    fix-part-requires
-    same-length
+    (λ c κs. search needs) (λ c κs. search needs) (λ c. search needs)
     returns
-    clear-msi-requires
-    same-length-2
+    (λ c κs. search needs) (λ c. search needs)
     returns-2)

@@ -24,21 +24,6 @@ loop-holds c =
     let a = c .before .args in
     (omega arith, omega arith, c .before .pre .0, part-none (fixedByte (a .s)) (a .lo) (now (a .config)))
 
-slice-read-fixed-byte : tie.Need-slice-read-fixed-byte Inv-loop μ-loop
-slice-read-fixed-byte c = search needs
-
-fixed-byte-requires : tie.Need-fixed-byte-requires Inv-loop μ-loop
-fixed-byte-requires c κs = search needs
-
-slice-write-config : tie.Need-slice-write-config Inv-loop μ-loop
-slice-write-config c = search needs
-
-add-i : tie.Need-add-i Inv-loop μ-loop
-add-i c = search needs
-
-loop-less : tie.Need-loop-less Inv-loop μ-loop
-loop-less c = search needs
-
 loop-again : tie.Need-loop-again Inv-loop μ-loop
 loop-again c =
     let at-loop = c .before .before .before in
@@ -50,9 +35,6 @@ loop-again c =
       simp length-set (v .inv .2),
       part-more (fixedByte (a .s)) (a .lo) (now (a .config)) (v .config) (v .i) (c .fixed-byte .result) (omega arith) (omega arith) (v .inv .3) (c .fixed-byte .ensures),
     )
-
-same-length : tie.Need-same-length Inv-loop μ-loop
-same-length c = search needs
 
 returns : tie.Need-returns Inv-loop μ-loop
 returns c =
@@ -67,11 +49,7 @@ fix-part-spec =
     Inv-loop
     μ-loop
     loop-holds
-    slice-read-fixed-byte
-    fixed-byte-requires
-    slice-write-config
-    add-i
-    loop-less
+    (λ c. search needs) (λ c κs. search needs) (λ c. search needs) (λ c. search needs) (λ c. search needs)
     loop-again
-    same-length
+    (λ c. search needs)
     returns)

@@ -10,12 +10,6 @@ use borrow.Author.Needs.{needs}
 use Rattle.registers.proofs.start.fixed_byte.Statement.{statement}
 use Rattle.registers.proofs.start.fixed_byte.Tie as tie
 
-writable-requires : tie.Need-writable-requires
-writable-requires c κs = search needs
-
-stored-zero-requires : tie.Need-stored-zero-requires
-stored-zero-requires c κs = search needs
-
 returns : tie.Need-returns
 unfolding fixedByte
 returns c =
@@ -28,4 +22,4 @@ returns c =
     ∙ ap₂ (λ (m n : ℕ). clear m (clear n b)) (c .before .writable .ensures) (c .stored-zero .ensures)
 
 pub fixed-byte-spec : {M : Type 1} → statement M
-fixed-byte-spec = tie.close (tie.spec writable-requires stored-zero-requires returns)
+fixed-byte-spec = tie.close (tie.spec (λ c κs. search needs) (λ c κs. search needs) returns)

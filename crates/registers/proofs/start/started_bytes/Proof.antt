@@ -22,18 +22,6 @@ abbrev μ-loop : tie.MeasureT-loop
 loop-holds : tie.Need-loop-holds Inv-loop μ-loop
 loop-holds c = (omega arith, refl, over-all (now (c .before .args .c)) _ (omega (arith, c .before .pre .0)))
 
-shared-slice-read-config : tie.Need-shared-slice-read-config Inv-loop μ-loop
-shared-slice-read-config c = search needs
-
-array-write-config : tie.Need-array-write-config Inv-loop μ-loop
-array-write-config c = search needs
-
-add-i : tie.Need-add-i Inv-loop μ-loop
-add-i c = search needs
-
-loop-less : tie.Need-loop-less Inv-loop μ-loop
-loop-less c = search needs
-
 loop-again : tie.Need-loop-again Inv-loop μ-loop
 loop-again c =
     let at-loop = c .before .before in
@@ -51,16 +39,10 @@ module _ (c : tie.After-loop Inv-loop μ-loop) where
   abbrev start : tie.Start Inv-loop μ-loop
   start = at-loop .before .before
 
-slice-aggregate-fix-part : tie.Need-slice-aggregate-fix-part Inv-loop μ-loop
-slice-aggregate-fix-part c = search needs
-
 fix-part-requires : tie.Need-fix-part-requires Inv-loop μ-loop
 fix-part-requires c κs =
     let copied = c .before in
     (at-loop copied .loop .inv .1, omega arith, start copied .pre .1, start copied .pre .2)
-
-slice-aggregate-fix-part-2 : tie.Need-slice-aggregate-fix-part-2 Inv-loop μ-loop
-slice-aggregate-fix-part-2 c = search needs
 
 fix-part-requires-2 : tie.Need-fix-part-requires-2 Inv-loop μ-loop
 fix-part-requires-2 c κs =
@@ -68,24 +50,12 @@ fix-part-requires-2 c κs =
     let copied = at-fix-part .before .before in
     (search needs, omega arith, start copied .pre .1, start copied .pre .2)
 
-slice-aggregate-fix-msi : tie.Need-slice-aggregate-fix-msi Inv-loop μ-loop
-slice-aggregate-fix-msi c = search needs
-
 fix-msi-requires : tie.Need-fix-msi-requires Inv-loop μ-loop
 fix-msi-requires c κs =
     let at-fix-part2 = c .before .before in
     let at-fix-part = at-fix-part2 .before .before .before in
     let copied = at-fix-part .before .before in
     (search needs, start copied .pre .1, start copied .pre .2)
-
-slice-aggregate-fix-part-3 : tie.Need-slice-aggregate-fix-part-3 Inv-loop μ-loop
-slice-aggregate-fix-part-3 c = search needs
-
-part-end-requires : tie.Need-part-end-requires Inv-loop μ-loop
-part-end-requires c κs = search needs
-
-part-end-requires-2 : tie.Need-part-end-requires-2 Inv-loop μ-loop
-part-end-requires-2 c κs = search needs
 
 fix-part-requires-3 : tie.Need-fix-part-requires-3 Inv-loop μ-loop
 fix-part-requires-3 c κs =
@@ -124,19 +94,14 @@ started-bytes-spec =
     Inv-loop
     μ-loop
     loop-holds
-    shared-slice-read-config
-    array-write-config
-    add-i
-    loop-less
+    (λ c. search needs) (λ c. search needs) (λ c. search needs) (λ c. search needs)
     loop-again
-    slice-aggregate-fix-part
+    (λ c. search needs)
     fix-part-requires
-    slice-aggregate-fix-part-2
+    (λ c. search needs)
     fix-part-requires-2
-    slice-aggregate-fix-msi
+    (λ c. search needs)
     fix-msi-requires
-    slice-aggregate-fix-part-3
-    part-end-requires
-    part-end-requires-2
+    (λ c. search needs) (λ c κs. search needs) (λ c κs. search needs)
     fix-part-requires-3
     returns)

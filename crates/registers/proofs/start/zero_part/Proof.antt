@@ -23,15 +23,6 @@ loop-holds c =
     let a = c .args in
     (omega arith, omega arith, c .pre .0, part-none (λ k x. 0) (a .lo) (now (a .config)))
 
-slice-write-config : tie.Need-slice-write-config Inv-loop μ-loop
-slice-write-config c = search needs
-
-add-i : tie.Need-add-i Inv-loop μ-loop
-add-i c = search needs
-
-loop-less : tie.Need-loop-less Inv-loop μ-loop
-loop-less c = search needs
-
 loop-again : tie.Need-loop-again Inv-loop μ-loop
 loop-again c =
     let at-loop = c .before in
@@ -42,9 +33,6 @@ loop-again c =
       simp length-set (v .inv .2),
       part-more (λ k x. 0) (a .lo) (now (a .config)) (v .config) (v .i) 0 (omega arith) (omega arith) (v .inv .3) refl,
     )
-
-same-length : tie.Need-same-length Inv-loop μ-loop
-same-length c = search needs
 
 returns : tie.Need-returns Inv-loop μ-loop
 returns c =
@@ -59,9 +47,7 @@ zero-part-spec =
     Inv-loop
     μ-loop
     loop-holds
-    slice-write-config
-    add-i
-    loop-less
+    (λ c. search needs) (λ c. search needs) (λ c. search needs)
     loop-again
-    same-length
+    (λ c. search needs)
     returns)

@@ -17,9 +17,6 @@ Inv-loop table₀ n k₀ table k = (k ≤ n) × (length table ≡ 16 * n) × ((i
 abbrev μ-loop : tie.MeasureT-loop
 μ-loop table₀ n k₀ table k = n - k
 
-fill-requires : tie.Need-fill-requires Inv-loop μ-loop
-fill-requires c κs = search needs
-
 loop-holds : tie.Need-loop-holds Inv-loop μ-loop
 loop-holds c =
     let at-fill = c .before .before in
@@ -32,21 +29,6 @@ loop-holds c =
       λ i h. ap (λ (l : List ℕ). byte l i) (at-fill .fill .ensures) ∙ getD-replicate (length o) i 0 0 (omega (arith, start .pre)) ∙ started-none i,
     )
 
-mul-table : tie.Need-mul-table Inv-loop μ-loop
-mul-table c = search needs
-
-add-table : tie.Need-add-table Inv-loop μ-loop
-add-table c = search needs
-
-slice-write-table : tie.Need-slice-write-table Inv-loop μ-loop
-slice-write-table c = search needs
-
-add-k : tie.Need-add-k Inv-loop μ-loop
-add-k c = search needs
-
-loop-less : tie.Need-loop-less Inv-loop μ-loop
-loop-less c = search needs
-
 loop-again : tie.Need-loop-again Inv-loop μ-loop
 loop-again c =
     let v = c .before .loop in (
@@ -54,9 +36,6 @@ loop-again c =
       simp length-set (v .inv .1),
       λ i h. started-more (v .table) (v .k) (omega arith) (v .inv .2) i (rw length-set at h),
     )
-
-same-length : tie.Need-same-length Inv-loop μ-loop
-same-length c = search needs
 
 returns : tie.Need-returns Inv-loop μ-loop
 returns c =
@@ -72,13 +51,9 @@ started-table-spec =
     (tie.spec
     Inv-loop
     μ-loop
-    fill-requires
+    (λ c κs. search needs)
     loop-holds
-    mul-table
-    add-table
-    slice-write-table
-    add-k
-    loop-less
+    (λ c. search needs) (λ c. search needs) (λ c. search needs) (λ c. search needs) (λ c. search needs)
     loop-again
-    same-length
+    (λ c. search needs)
     returns)

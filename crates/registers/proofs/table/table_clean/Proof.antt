@@ -29,27 +29,6 @@ abbrev μ-loop : tie.MeasureT-loop
 loop-holds : tie.Need-loop-holds Inv-loop μ-loop
 loop-holds c = (omega arith, none _)
 
-mul-word64 : tie.Need-mul-word64 Inv-loop μ-loop
-mul-word64 c = search needs
-
-word64-requires : tie.Need-word64-requires Inv-loop μ-loop
-word64-requires c κs = search needs
-
-mul-word64-2 : tie.Need-mul-word64-2 Inv-loop μ-loop
-mul-word64-2 c = search needs
-
-add-word64 : tie.Need-add-word64 Inv-loop μ-loop
-add-word64 c = search needs
-
-word64-requires-2 : tie.Need-word64-requires-2 Inv-loop μ-loop
-word64-requires-2 c κs = search needs
-
-add-k : tie.Need-add-k Inv-loop μ-loop
-add-k c = search needs
-
-loop-less : tie.Need-loop-less Inv-loop μ-loop
-loop-less c = search needs
-
 loop-again : tie.Need-loop-again Inv-loop μ-loop
 loop-again c =
     let at-loop = c .before .before .before in
@@ -77,12 +56,7 @@ table-clean-spec =
     Inv-loop
     μ-loop
     loop-holds
-    mul-word64
-    word64-requires
-    mul-word64-2
-    add-word64
-    word64-requires-2
-    add-k
-    loop-less
+    (λ c. search needs) (λ c κs. search needs) (λ c. search needs) (λ c. search needs) (λ c κs. search needs)
+    (λ c. search needs) (λ c. search needs)
     loop-again
     returns)

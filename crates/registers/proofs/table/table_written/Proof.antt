@@ -23,30 +23,6 @@ abbrev μ-loop : tie.MeasureT-loop
 loop-holds : tie.Need-loop-holds Inv-loop μ-loop
 loop-holds c = (omega arith, refl, rw (add-zero, sub-zero))
 
-add-k : tie.Need-add-k Inv-loop μ-loop
-add-k c = search needs
-
-entry-writable-requires : tie.Need-entry-writable-requires Inv-loop μ-loop
-entry-writable-requires c κs = search needs
-
-slice-read-merge : tie.Need-slice-read-merge Inv-loop μ-loop
-slice-read-merge c = search needs
-
-cast-merge : tie.Need-cast-merge Inv-loop μ-loop
-cast-merge c = search needs
-
-merge-requires : tie.Need-merge-requires Inv-loop μ-loop
-merge-requires c κs = search needs
-
-slice-write-table : tie.Need-slice-write-table Inv-loop μ-loop
-slice-write-table c = search needs
-
-add-i : tie.Need-add-i Inv-loop μ-loop
-add-i c = search needs
-
-loop-less : tie.Need-loop-less Inv-loop μ-loop
-loop-less c = search needs
-
 loop-again : tie.Need-loop-again Inv-loop μ-loop
 loop-again c =
     let at-entry-writable = c .before .before in
@@ -59,9 +35,6 @@ loop-again c =
       simp length-set (v .inv .1),
       write-next entryWritable (a .at) (v .i) (a .n) (v .left) (v .table) _ (v .inv .2) (c .merge .result) (omega arith) (c .merge .ensures ∙ e),
     )
-
-same-length : tie.Need-same-length Inv-loop μ-loop
-same-length c = search needs
 
 returns : tie.Need-returns Inv-loop μ-loop
 returns c =
@@ -76,14 +49,8 @@ table-written-spec =
     Inv-loop
     μ-loop
     loop-holds
-    add-k
-    entry-writable-requires
-    slice-read-merge
-    cast-merge
-    merge-requires
-    slice-write-table
-    add-i
-    loop-less
+    (λ c. search needs) (λ c κs. search needs) (λ c. search needs) (λ c. search needs) (λ c κs. search needs)
+    (λ c. search needs) (λ c. search needs) (λ c. search needs)
     loop-again
-    same-length
+    (λ c. search needs)
     returns)

@@ -36,9 +36,6 @@ module _ (c : tie.After-lowest Inv-loop μ-loop) where
 loop-holds : tie.Need-loop-holds Inv-loop μ-loop
 loop-holds c = masking-all _ _ _ (search needs)
 
-lowest-requires : tie.Need-lowest-requires Inv-loop μ-loop
-lowest-requires c κs = search needs
-
 cast-masked : tie.Need-cast-masked Inv-loop μ-loop
 cast-masked c = omega (arith, t c .within)
 
@@ -54,17 +51,11 @@ add-masked-2 c = omega (arith, within c)
 shared-slice-read-masked : tie.Need-shared-slice-read-masked Inv-loop μ-loop
 shared-slice-read-masked c = omega (arith, within (c .before))
 
-cast-masked-2 : tie.Need-cast-masked-2 Inv-loop μ-loop
-cast-masked-2 c = search needs
-
 cast-r : tie.Need-cast-r Inv-loop μ-loop
 cast-r c = omega (arith, t (c .before) .within)
 
 shl-r : tie.Need-shl-r Inv-loop μ-loop
 shl-r c = t (c .before) .within
-
-sub-left : tie.Need-sub-left Inv-loop μ-loop
-sub-left c = search needs
 
 loop-less : tie.Need-loop-less Inv-loop μ-loop
 loop-less c = t (c .before) .less
@@ -82,16 +73,16 @@ unmasked-spec =
     Inv-loop
     μ-loop
     loop-holds
-    lowest-requires
+    (λ c κs. search needs)
     cast-masked
     add-masked
     mul-masked
     add-masked-2
     shared-slice-read-masked
-    cast-masked-2
+    (λ c. search needs)
     cast-r
     shl-r
-    sub-left
+    (λ c. search needs)
     loop-less
     loop-again
     returns)

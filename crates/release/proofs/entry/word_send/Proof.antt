@@ -63,17 +63,11 @@ module _ (c : tie.After-lowest Inv-loop μ-loop) where
 loop-holds : tie.Need-loop-holds Inv-loop μ-loop
 loop-holds c = (remaining-all 64 _ (search needs), sending-all _ _)
 
-lowest-requires : tie.Need-lowest-requires Inv-loop μ-loop
-lowest-requires c κs = search needs
-
 sub-put-entry : tie.Need-sub-put-entry Inv-loop μ-loop
 sub-put-entry c = omega (arith, fits c)
 
 part-put-entry-start : tie.Need-part-put-entry-start Inv-loop μ-loop
 part-put-entry-start c = omega (arith, fits c)
-
-part-put-entry-end : tie.Need-part-put-entry-end Inv-loop μ-loop
-part-put-entry-end c = search needs
 
 cast-put-entry : tie.Need-cast-put-entry Inv-loop μ-loop
 cast-put-entry c = omega (arith, t (c .before) .within)
@@ -89,9 +83,6 @@ add-at c =
     let at-put-entry = c .before .before in
     let at-lowest = at-put-entry .before .before in
     omega (arith, fits at-lowest, at-put-entry .put-entry .ensures .count)
-
-sub-left : tie.Need-sub-left Inv-loop μ-loop
-sub-left c = search needs
 
 loop-less : tie.Need-loop-less Inv-loop μ-loop
 loop-less c =
@@ -126,15 +117,15 @@ word-send-spec =
     Inv-loop
     μ-loop
     loop-holds
-    lowest-requires
+    (λ c κs. search needs)
     sub-put-entry
     part-put-entry-start
-    part-put-entry-end
+    (λ c. search needs)
     cast-put-entry
     add-put-entry
     put-entry-requires
     add-at
-    sub-left
+    (λ c. search needs)
     loop-less
     loop-again
     same-length

@@ -66,9 +66,6 @@ more c requester =
 loop-holds : tie.Need-loop-holds Inv-loop μ-loop
 loop-holds c = (remaining-all 64 _ (search needs), λ requester. zero-add _)
 
-lowest-requires : tie.Need-lowest-requires Inv-loop μ-loop
-lowest-requires c κs = search needs
-
 cast-word32 : tie.Need-cast-word32 Inv-loop μ-loop
 cast-word32 c = omega (arith, t c .within)
 
@@ -84,17 +81,11 @@ add-word32-2 c = omega (arith, within c)
 word32-requires : tie.Need-word32-requires Inv-loop μ-loop
 word32-requires c κs = omega (arith, within c)
 
-message-size-requires : tie.Need-message-size-requires Inv-loop μ-loop
-message-size-requires c κs = search needs
-
 add-n : tie.Need-add-n Inv-loop μ-loop
 add-n c =
     let at-lowest = c .before .before in
     let a = start at-lowest .args in
     omega (arith, more c 0, at-loop at-lowest .loop .inv .1 0, word-le 0 (now (a .table)) (a .base) (a .w))
-
-sub-left : tie.Need-sub-left Inv-loop μ-loop
-sub-left c = search needs
 
 loop-less : tie.Need-loop-less Inv-loop μ-loop
 loop-less c = t (c .before .before) .less
@@ -118,15 +109,15 @@ word-size-spec =
     Inv-loop
     μ-loop
     loop-holds
-    lowest-requires
+    (λ c κs. search needs)
     cast-word32
     add-word32
     mul-word32
     add-word32-2
     word32-requires
-    message-size-requires
+    (λ c κs. search needs)
     add-n
-    sub-left
+    (λ c. search needs)
     loop-less
     loop-again
     returns)

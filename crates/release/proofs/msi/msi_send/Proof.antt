@@ -69,9 +69,6 @@ sub-put-message c = omega (arith, fits c)
 part-put-message-start : tie.Need-part-put-message-start Inv-loop μ-loop
 part-put-message-start c = omega (arith, fits c)
 
-part-put-message-end : tie.Need-part-put-message-end Inv-loop μ-loop
-part-put-message-end c = search needs
-
 add-put-message : tie.Need-add-put-message Inv-loop μ-loop
 add-put-message c = omega (arith, t (c .before) .within)
 
@@ -86,9 +83,6 @@ add-at c =
     let at-put-message = c .before .before in
     let in-loop = at-put-message .before .before in
     omega (arith, fits in-loop, at-put-message .put-message .ensures .count)
-
-sub-left : tie.Need-sub-left Inv-loop μ-loop
-sub-left c = search needs
 
 loop-less : tie.Need-loop-less Inv-loop μ-loop
 loop-less c =
@@ -125,11 +119,11 @@ msi-send-spec =
     loop-holds
     sub-put-message
     part-put-message-start
-    part-put-message-end
+    (λ c. search needs)
     add-put-message
     put-message-requires
     add-at
-    sub-left
+    (λ c. search needs)
     loop-less
     loop-again
     same-length

@@ -16,9 +16,6 @@ use Rattle.release.proofs.msi.msi_size.Tie as tie
 cast-result : tie.Need-cast-result
 cast-result c = let h : c .args .owed < 2 ^ 32 = search needs in omega (arith, ones-le 32 (c .args .owed) h)
 
-message-size-requires : tie.Need-message-size-requires
-message-size-requires c κs = search needs
-
 mul-result : tie.Need-mul-result
 mul-result c =
     let a = c .before .args in
@@ -35,4 +32,4 @@ returns c requester address base =
     ∙ ap₂ _*_ (sym (c .message-size .ensures)) (length-set-bits 32 (a .owed) (search needs)) ∙ mul-comm _ _)
 
 pub msi-size-spec : {M : Type 1} → statement M
-msi-size-spec = tie.close (tie.spec cast-result message-size-requires mul-result returns)
+msi-size-spec = tie.close (tie.spec cast-result (λ c κs. search needs) mul-result returns)

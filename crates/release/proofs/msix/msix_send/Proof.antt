@@ -45,9 +45,6 @@ sub-release-word c = omega (arith, fits c)
 part-release-word-start : tie.Need-part-release-word-start Inv-loop μ-loop
 part-release-word-start c = omega (arith, fits c)
 
-part-release-word-end : tie.Need-part-release-word-end Inv-loop μ-loop
-part-release-word-end c = search needs
-
 release-word-requires : tie.Need-release-word-requires Inv-loop μ-loop
 release-word-requires c κs =
     let in-loop = c .before .before in
@@ -100,7 +97,7 @@ msix-send-spec =
     loop-holds
     sub-release-word
     part-release-word-start
-    part-release-word-end
+    (λ c. search needs)
     release-word-requires
     add-sent
     add-at

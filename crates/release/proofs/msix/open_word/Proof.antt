@@ -10,12 +10,6 @@ use Rattle.release.proofs.msix.open_word.Statement.{statement}
 use Rattle.release.proofs.msix.open_word.Tie as tie
 use Rattle.model.specs.Vectors.{entryMasked}
 
-mul-unmasked : tie.Need-mul-unmasked
-mul-unmasked c = search needs
-
-word64-requires : tie.Need-word64-requires
-word64-requires c κs = search needs
-
 unmasked-requires : tie.Need-unmasked-requires
 unmasked-requires c κs =
     let start = c .before .before .before in
@@ -32,4 +26,4 @@ returns c =
     c .unmasked .ensures j ∙ ap (λ (x : ℕ). bit x j && not (entryMasked (now (a .table)) (8 * a .at + j))) (c .before .word64 .ensures)
 
 pub open-word-spec : {M : Type 1} → statement M
-open-word-spec = tie.close (tie.spec mul-unmasked word64-requires unmasked-requires returns)
+open-word-spec = tie.close (tie.spec (λ c. search needs) (λ c κs. search needs) unmasked-requires returns)

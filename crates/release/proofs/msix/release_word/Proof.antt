@@ -28,34 +28,10 @@ module _ (opened : tie.After-open-word) where
   bytes : Bytes p
   bytes i = opened .before .before .slice-known2 .given i .fits
 
-open-word-requires : tie.Need-open-word-requires
-open-word-requires c κs = search needs
-
-same-length : tie.Need-same-length
-same-length c = search needs
-
 returns : tie.Need-returns
 returns c =
     let opened = c .before in
     released-none _ _ _ _ _ (word-empty (t opened) (p opened) (start opened .args .at) (opened .open-word .result) (bytes opened) (opened .open-word .ensures) (c .if1 .taken))
-
-word64-requires : tie.Need-word64-requires
-word64-requires c κs = search needs
-
-sub-put-le : tie.Need-sub-put-le
-sub-put-le c = search needs
-
-part-put-le-start : tie.Need-part-put-le-start
-part-put-le-start c = search needs
-
-part-put-le-end : tie.Need-part-put-le-end
-part-put-le-end c = search needs
-
-put-le-requires : tie.Need-put-le-requires
-put-le-requires c κs = search needs
-
-mul-word-send : tie.Need-mul-word-send
-mul-word-send c = search needs
 
 word-send-requires : tie.Need-word-send-requires
 word-send-requires c κs =
@@ -65,12 +41,6 @@ word-send-requires c κs =
       open-backed (t opened) (p opened) (a .at) (opened .open-word .result) (bytes opened) (start opened .pre .0) (opened .open-word .ensures),
       omega (arith, ap length packets, start opened .pre .2),
     )
-
-same-length-2 : tie.Need-same-length-2
-same-length-2 c = search needs
-
-same-length-3 : tie.Need-same-length-3
-same-length-3 c = search needs
 
 returns-2 : tie.Need-returns-2
 returns-2 c =
@@ -89,16 +59,10 @@ pub release-word-spec : {M : Type 1} → statement M
 release-word-spec =
     tie.close
     (tie.spec
-    open-word-requires
-    same-length
+    (λ c κs. search needs) (λ c. search needs)
     returns
-    word64-requires
-    sub-put-le
-    part-put-le-start
-    part-put-le-end
-    put-le-requires
-    mul-word-send
+    (λ c κs. search needs) (λ c. search needs) (λ c. search needs) (λ c. search needs) (λ c κs. search needs)
+    (λ c. search needs)
     word-send-requires
-    same-length-2
-    same-length-3
+    (λ c. search needs) (λ c. search needs)
     returns-2)

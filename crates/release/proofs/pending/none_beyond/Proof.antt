@@ -11,15 +11,6 @@ use Rattle.release.proofs.pending.none_beyond.Tie as tie
 returns : tie.Need-returns
 returns c = beyond-none _ (c .before .before .args .n) _ (c .before .before .pre) (c .if1 .taken)
 
-mul-word64 : tie.Need-mul-word64
-mul-word64 c = search needs
-
-word64-requires : tie.Need-word64-requires
-word64-requires c κs = search needs
-
-shr-result : tie.Need-shr-result
-shr-result c = search needs
-
 returns-2 : tie.Need-returns-2
 returns-2 c =
     let at-shared-slice-known = c .before .before in
@@ -28,4 +19,4 @@ returns-2 c =
     ∙ beyond-word (now (start .args .pending)) (start .args .n) (λ i. at-shared-slice-known .shared-slice-known .given i .fits) (start .pre) (c .before .if1 .left)
 
 pub none-beyond-spec : {M : Type 1} → statement M
-none-beyond-spec = tie.close (tie.spec returns mul-word64 word64-requires shr-result returns-2)
+none-beyond-spec = tie.close (tie.spec returns (λ c. search needs) (λ c κs. search needs) (λ c. search needs) returns-2)

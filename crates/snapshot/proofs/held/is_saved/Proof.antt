@@ -4,9 +4,6 @@ use borrow.Author.Needs.{needs}
 use Rattle.snapshot.proofs.held.is_saved.Statement.{statement}
 use Rattle.snapshot.proofs.held.is_saved.Tie as tie
 
-flags-clean-requires : tie.Need-flags-clean-requires
-flags-clean-requires c κs = search needs
-
 returns : tie.Need-returns
 returns c =
     let at-flags-clean = c .before in
@@ -14,9 +11,6 @@ returns c =
     let start = at-shared-slice-known .before in
     wrong-flags _ (λ i. (at-shared-slice-known .shared-slice-known .given) i .fits) (start .pre .0) (start .pre .1) (start .pre .2) _ (at-flags-clean
     .flags-clean .ensures) (c .if1 .taken)
-
-add-middle : tie.Need-add-middle
-add-middle c = search needs
 
 returns-2 : tie.Need-returns-2
 returns-2 c =
@@ -26,27 +20,6 @@ returns-2 c =
     let start = at-shared-slice-known .before in
     too-short _ (λ i. (at-shared-slice-known .shared-slice-known .given) i .fits) (start .pre .0) (start .pre .1) (start .pre .2) _ (at-flags-clean
     .flags-clean .ensures) (at-if1 .if1 .left) _ _ (start .pre .3) (start .pre .4) (c .if2 .taken)
-
-sub-check : tie.Need-sub-check
-sub-check c = search needs
-
-part-check-start : tie.Need-part-check-start
-part-check-start c = search needs
-
-part-check-end : tie.Need-part-check-end
-part-check-end c = search needs
-
-sub-check-2 : tie.Need-sub-check-2
-sub-check-2 c = search needs
-
-part-check-start-2 : tie.Need-part-check-start-2
-part-check-start-2 c = search needs
-
-part-check-end-2 : tie.Need-part-check-end-2
-part-check-end-2 c = search needs
-
-check-requires : tie.Need-check-requires
-check-requires c κs = search needs
 
 returns-3 : tie.Need-returns-3
 returns-3 c =
@@ -62,15 +35,10 @@ pub is-saved-spec : {M : Type 1} → statement M
 is-saved-spec =
     tie.close
     (tie.spec
-    flags-clean-requires
+    (λ c κs. search needs)
     returns
-    add-middle
+    (λ c. search needs)
     returns-2
-    sub-check
-    part-check-start
-    part-check-end
-    sub-check-2
-    part-check-start-2
-    part-check-end-2
-    check-requires
+    (λ c. search needs) (λ c. search needs) (λ c. search needs) (λ c. search needs) (λ c. search needs)
+    (λ c. search needs) (λ c κs. search needs)
     returns-3)

@@ -51,17 +51,8 @@ module _ (c : tie.Else4) where
     isLength = at-table-length .table-length .ensures .0;
   }
 
-refused-requires : tie.Need-refused-requires
-refused-requires c κs = search needs
-
 returns : tie.Need-returns
 returns c = no-image _ _ _ _ _ (c .before .if1 .taken) (c .refused .ensures)
-
-is-marked-requires : tie.Need-is-marked-requires
-is-marked-requires c κs = search needs
-
-refused-requires-2 : tie.Need-refused-requires-2
-refused-requires-2 c κs = search needs
 
 returns-2 : tie.Need-returns-2
 returns-2 c =
@@ -69,12 +60,6 @@ returns-2 c =
     let at-is-marked = at-if2 .before in
     let at-if1 = at-is-marked .before in
     no-mark _ (at-if1 .if1 .left) _ (at-is-marked .is-marked .ensures) _ _ _ _ (at-if2 .if2 .taken) (c .refused2 .ensures)
-
-version-requires : tie.Need-version-requires
-version-requires c κs = search needs
-
-refused-requires-3 : tie.Need-refused-requires-3
-refused-requires-3 c κs = search needs
 
 returns-3 : tie.Need-returns-3
 returns-3 c =
@@ -86,21 +71,12 @@ returns-3 c =
     other-version _ (at-if1 .if1 .left) _ (at-is-marked .is-marked .ensures) (at-if2 .if2 .left) _ (at-version .version .ensures) _ _ _ _
     (at-if3 .if3 .taken) (c .refused3 .ensures)
 
-held-card-requires : tie.Need-held-card-requires
-held-card-requires c κs = search needs
-
-table-length-requires : tie.Need-table-length-requires
-table-length-requires c κs = search needs
-
 is-saved-requires : tie.Need-is-saved-requires
 is-saved-requires c κs =
     let at-held = c .before in
     let past-3 = at-held .before in
     let e = image-passed past-3 in
     (at-if1 past-3 .if1 .left, e .0, e .1, at-held .held-card .ensures, c .table-length .ensures .0, c .table-length .ensures .1)
-
-refused-requires-4 : tie.Need-refused-requires-4
-refused-requires-4 c κs = search needs
 
 returns-4 : tie.Need-returns-4
 returns-4 c =
@@ -109,20 +85,11 @@ returns-4 c =
     let past-3 = at-is-saved .before .before .before in
     not-saved _ (at-if1 past-3 .if1 .left) (image-passed past-3) _ (at-is-saved .is-saved .ensures) _ _ _ _ (at-if4 .if4 .taken) (c .refused4 .ensures)
 
-refused-requires-5 : tie.Need-refused-requires-5
-refused-requires-5 c κs = search needs
-
 returns-5 : tie.Need-returns-5
 returns-5 c = other-table _ _ _ (saved (c .before .before)) _ _ _ _ (c .before .if5 .taken) (c .refused5 .ensures)
 
-sub-if6 : tie.Need-sub-if6
-sub-if6 c = search needs
-
 sub-if6-2 : tie.Need-sub-if6-2
 sub-if6-2 c = omega (arith, room _ _ _ (saved (c .before)))
-
-refused-requires-6 : tie.Need-refused-requires-6
-refused-requires-6 c κs = search needs
 
 returns-6 : tie.Need-returns-6
 returns-6 c =
@@ -138,15 +105,6 @@ copy-buffers-requires c κs =
     let a = start (at-if3 past-4) .args in
     filled _ _ _ (saved past-4) (a .card) (now (a .table)) (now (a .pending)) (at-if5 .if5 .left) (at-if6 .if6 .left)
 
-accepted-requires : tie.Need-accepted-requires
-accepted-requires c κs = search needs
-
-same-length : tie.Need-same-length
-same-length c = search needs
-
-same-length-2 : tie.Need-same-length-2
-same-length-2 c = search needs
-
 returns-7 : tie.Need-returns-7
 returns-7 c =
     let at-copy-buffers = c .before .before .before .before .before in
@@ -161,27 +119,22 @@ pub restore-spec : {M : Type 1} → statement M
 restore-spec =
     tie.close
     (tie.spec
-    refused-requires
+    (λ c κs. search needs)
     returns
-    is-marked-requires
-    refused-requires-2
+    (λ c κs. search needs) (λ c κs. search needs)
     returns-2
-    version-requires
-    refused-requires-3
+    (λ c κs. search needs) (λ c κs. search needs)
     returns-3
-    held-card-requires
-    table-length-requires
+    (λ c κs. search needs) (λ c κs. search needs)
     is-saved-requires
-    refused-requires-4
+    (λ c κs. search needs)
     returns-4
-    refused-requires-5
+    (λ c κs. search needs)
     returns-5
-    sub-if6
+    (λ c. search needs)
     sub-if6-2
-    refused-requires-6
+    (λ c κs. search needs)
     returns-6
     copy-buffers-requires
-    accepted-requires
-    same-length
-    same-length-2
+    (λ c κs. search needs) (λ c. search needs) (λ c. search needs)
     returns-7)

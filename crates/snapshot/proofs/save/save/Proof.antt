@@ -4,12 +4,6 @@ use borrow.Author.Needs.{needs}
 use Rattle.snapshot.proofs.save.save.Statement.{statement}
 use Rattle.snapshot.proofs.save.save.Tie as tie
 
-check-requires : tie.Need-check-requires
-check-requires c κs = search needs
-
-refused-requires : tie.Need-refused-requires
-refused-requires c κs = search needs
-
 returns : tie.Need-returns
 returns c =
     let at-if1 = c .before in
@@ -22,9 +16,6 @@ save-core-requires c κs =
     let at-check = at-if1 .before .before in
     frame-runs (at-check .check .ensures) (at-if1 .if1 .left)
 
-same-length : tie.Need-same-length
-same-length c = search needs
-
 returns-2 : tie.Need-returns-2
 returns-2 c =
     let at-core = c .before .before in
@@ -35,4 +26,4 @@ returns-2 c =
 pub save-spec : {M : Type 1} → statement M
 save-spec =
     tie.close
-    (tie.spec check-requires refused-requires returns save-core-requires same-length returns-2)
+    (tie.spec (λ c κs. search needs) (λ c κs. search needs) returns save-core-requires (λ c. search needs) returns-2)

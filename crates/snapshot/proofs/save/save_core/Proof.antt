@@ -14,9 +14,6 @@ sizes c = search needs
 bytes : (c : tie.Start) → length (c .args .card .function .config) ≡ 256
 bytes c = search needs
 
-new-requires : tie.Need-new-requires
-new-requires c κs = search needs
-
 -- the image's layout and length are known
 module _ (c : tie.After-len) where
   abbrev at-new : tie.After-new
@@ -29,9 +26,6 @@ len-requires : tie.Need-len-requires
 len-requires c κs =
     let start = c .before .before .before .before in
     size-fits _ _ _ _ (c .new .ensures) _ (start .pre)
-
-refused-requires : tie.Need-refused-requires
-refused-requires c κs = search needs
 
 returns : tie.Need-returns
 returns c =
@@ -47,12 +41,6 @@ put-image-requires c κs =
     let a = start sized .args in
     output-fits (a .card) (now (a .table)) (now (a .pending)) _ (at-new sized .new .ensures) _ (sized .len .ensures) (now (a .out)) (at-if1 .if1 .left)
 
-accepted-requires : tie.Need-accepted-requires
-accepted-requires c κs = search needs
-
-same-length : tie.Need-same-length
-same-length c = search needs
-
 returns-2 : tie.Need-returns-2
 returns-2 c =
     let at-put-image = c .before .before .before in
@@ -65,11 +53,10 @@ pub save-core-spec : {M : Type 1} → statement M
 save-core-spec =
     tie.close
     (tie.spec
-    new-requires
+    (λ c κs. search needs)
     len-requires
-    refused-requires
+    (λ c κs. search needs)
     returns
     put-image-requires
-    accepted-requires
-    same-length
+    (λ c κs. search needs) (λ c. search needs)
     returns-2)

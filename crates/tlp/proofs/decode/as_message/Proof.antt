@@ -8,9 +8,6 @@ use borrow.Author.Needs.{needs}
 use Rattle.tlp.proofs.decode.as_message.Statement.{statement}
 use Rattle.tlp.proofs.decode.as_message.Tie as tie
 
-slice-aggregate-put-message : tie.Need-slice-aggregate-put-message
-slice-aggregate-put-message c = search needs
-
 put-message-requires : tie.Need-put-message-requires
 put-message-requires c κs = size-le _
 
@@ -19,9 +16,6 @@ array-share-prefix-again c = wrote-within (c .before .put-message .ensures)
 
 slice-aggregate-same : tie.Need-slice-aggregate-same
 slice-aggregate-same c = sym (length-take-le _ _ (wrote-within (c .before .before .put-message .ensures)))
-
-same-requires : tie.Need-same-requires
-same-requires c κs = search needs
 
 returns : tie.Need-returns
 returns c =
@@ -39,10 +33,10 @@ pub as-message-spec : {M : Type 1} → statement M
 as-message-spec =
     tie.close
     (tie.spec
-    slice-aggregate-put-message
+    (λ c. search needs)
     put-message-requires
     array-share-prefix-again
     slice-aggregate-same
-    same-requires
+    (λ c κs. search needs)
     returns
     returns-2)

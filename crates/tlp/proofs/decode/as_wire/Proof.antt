@@ -7,20 +7,11 @@ use borrow.Author.Needs.{needs}
 use Rattle.tlp.proofs.decode.as_wire.Statement.{statement}
 use Rattle.tlp.proofs.decode.as_wire.Tie as tie
 
-slice-aggregate-put-wire : tie.Need-slice-aggregate-put-wire
-slice-aggregate-put-wire c = search needs
-
-put-wire-requires : tie.Need-put-wire-requires
-put-wire-requires c κs = search needs
-
 array-share-prefix-again : tie.Need-array-share-prefix-again
 array-share-prefix-again c = wrote-within (c .before .put-wire .ensures)
 
 slice-aggregate-same : tie.Need-slice-aggregate-same
 slice-aggregate-same c = sym (length-take-le _ _ (wrote-within (c .before .before .put-wire .ensures)))
-
-same-requires : tie.Need-same-requires
-same-requires c κs = search needs
 
 returns : tie.Need-returns
 returns c =
@@ -38,10 +29,9 @@ pub as-wire-spec : {M : Type 1} → statement M
 as-wire-spec =
     tie.close
     (tie.spec
-    slice-aggregate-put-wire
-    put-wire-requires
+    (λ c. search needs) (λ c κs. search needs)
     array-share-prefix-again
     slice-aggregate-same
-    same-requires
+    (λ c κs. search needs)
     returns
     returns-2)

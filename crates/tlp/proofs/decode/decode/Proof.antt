@@ -8,28 +8,10 @@ use Rattle.tlp.proofs.decode.decode.Tie as tie
 returns : tie.Need-returns
 returns c = too-short (now (c .before .before .args .s)) (c .if1 .taken)
 
-shared-slice-read-if2 : tie.Need-shared-slice-read-if2
-shared-slice-read-if2 c = search needs
-
-decode-wire-requires : tie.Need-decode-wire-requires
-decode-wire-requires c κs = search needs
-
 returns-2 : tie.Need-returns-2
 returns-2 c =
     let at-long = c .before .before .before in
     by-wire (now (at-long .before .before .args .s)) (at-long .if1 .left) _ (c .before .if2 .taken) (c .decode-wire .ensures)
-
-high16-requires : tie.Need-high16-requires
-high16-requires c κs = search needs
-
-high32-requires : tie.Need-high32-requires
-high32-requires c κs = search needs
-
-word32-requires : tie.Need-word32-requires
-word32-requires c κs = search needs
-
-as-message-requires : tie.Need-as-message-requires
-as-message-requires c κs = search needs
 
 returns-3 : tie.Need-returns-3
 returns-3 c =
@@ -40,18 +22,6 @@ returns-3 c =
     let l = now (at-long .before .before .args .s) in
     by-short l (at-long .if1 .left) _ (at-first .if2 .left) _ (at-requester .high16 .ensures) (at-length .if3 .taken) _ _
     (c .before .before .high32 .ensures) (c .before .word32 .ensures) (c .as-message .ensures)
-
-high32-requires-2 : tie.Need-high32-requires-2
-high32-requires-2 c κs = search needs
-
-high32-requires-3 : tie.Need-high32-requires-3
-high32-requires-3 c κs = search needs
-
-word32-requires-2 : tie.Need-word32-requires-2
-word32-requires-2 c κs = search needs
-
-as-message-requires-2 : tie.Need-as-message-requires-2
-as-message-requires-2 c κs = search needs
 
 returns-4 : tie.Need-returns-4
 returns-4 c =
@@ -69,16 +39,9 @@ decode-spec =
     tie.close
     (tie.spec
     returns
-    shared-slice-read-if2
-    decode-wire-requires
+    (λ c. search needs) (λ c κs. search needs)
     returns-2
-    high16-requires
-    high32-requires
-    word32-requires
-    as-message-requires
+    (λ c κs. search needs) (λ c κs. search needs) (λ c κs. search needs) (λ c κs. search needs)
     returns-3
-    high32-requires-2
-    high32-requires-3
-    word32-requires-2
-    as-message-requires-2
+    (λ c κs. search needs) (λ c κs. search needs) (λ c κs. search needs) (λ c κs. search needs)
     returns-4)

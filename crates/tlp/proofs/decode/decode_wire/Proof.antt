@@ -5,12 +5,6 @@ use borrow.Author.Needs.{needs}
 use Rattle.tlp.proofs.decode.decode_wire.Statement.{statement}
 use Rattle.tlp.proofs.decode.decode_wire.Tie as tie
 
-high16-requires : tie.Need-high16-requires
-high16-requires c κs = search needs
-
-shared-slice-read-code : tie.Need-shared-slice-read-code
-shared-slice-read-code c = search needs
-
 returns : tie.Need-returns
 returns c =
     let start = c .before .before .before .before in
@@ -21,24 +15,12 @@ returns-2 c =
     let start = c .before .before .before .before .before in
     code-high (now (start .args .s)) (c .before .if1 .left) (c .if2 .taken)
 
-sub-t9 : tie.Need-sub-t9
-sub-t9 c = search needs
-
-as-wire-requires : tie.Need-as-wire-requires
-as-wire-requires c κs = search needs
-
 returns-3 : tie.Need-returns-3
 returns-3 c =
     let at-low = c .before .before .before in
     let at-requester = at-low .before .before in
     let l = now (at-requester .before .before .args .s) in
     code-assert l (at-low .if1 .left) (c .before .before .if2 .left) _ (at-requester .high16 .ensures) _ (c .before .if3 .taken) (c .as-wire .ensures)
-
-sub-t7 : tie.Need-sub-t7
-sub-t7 c = search needs
-
-as-wire-requires-2 : tie.Need-as-wire-requires-2
-as-wire-requires-2 c κs = search needs
 
 returns-4 : tie.Need-returns-4
 returns-4 c =
@@ -51,13 +33,10 @@ pub decode-wire-spec : {M : Type 1} → statement M
 decode-wire-spec =
     tie.close
     (tie.spec
-    high16-requires
-    shared-slice-read-code
+    (λ c κs. search needs) (λ c. search needs)
     returns
     returns-2
-    sub-t9
-    as-wire-requires
+    (λ c. search needs) (λ c κs. search needs)
     returns-3
-    sub-t7
-    as-wire-requires-2
+    (λ c. search needs) (λ c κs. search needs)
     returns-4)

@@ -9,16 +9,10 @@ use Rattle.vectors.proofs.GrantedLaws.{vector-by}
 use Rattle.vectors.proofs.event.event_vector.Statement.{statement}
 use Rattle.vectors.proofs.event.event_vector.Tie as tie
 
-granted-requires : tie.Need-granted-requires
-granted-requires c κs = search needs
-
-vector-requires : tie.Need-vector-requires
-vector-requires c κs = search needs
-
 returns : tie.Need-returns
 returns c =
     let a = c .before .before .args in
     λ t. c .vector .ensures ∙ ap (λ (g : ℕ). vectorBy (a .m) g (a .e .0)) (c .before .granted .ensures .0 t) ∙ vector-by (a .m) (a .s) (regs (now (a .c)) t) (a .e .0)
 
 pub event-vector-spec : {M : Type 1} → statement M
-event-vector-spec = tie.close (tie.spec granted-requires vector-requires returns)
+event-vector-spec = tie.close (tie.spec (λ c κs. search needs) (λ c κs. search needs) returns)

@@ -9,15 +9,6 @@ use Rattle.model.specs.Vectors.{granted}
 use Rattle.vectors.proofs.granted.granted.Statement.{statement}
 use Rattle.vectors.proofs.granted.granted.Tie as tie
 
-granted-log-requires : tie.Need-granted-log-requires
-granted-log-requires c κs = search needs
-
-cast-result : tie.Need-cast-result
-cast-result c = search needs
-
-shl-result : tie.Need-shl-result
-shl-result c = search needs
-
 returns : tie.Need-returns
 unfolding granted
 returns c =
@@ -26,4 +17,4 @@ returns c =
     rw (one-shl 32 n (omega arith)) (λ t. ap (λ (k : ℕ). 2 ^ k) (c .granted-log .ensures .0 t), pow-pos n, pow-mono b)
 
 pub granted-spec : {M : Type 1} → statement M
-granted-spec = tie.close (tie.spec granted-log-requires cast-result shl-result returns)
+granted-spec = tie.close (tie.spec (λ c κs. search needs) (λ c. search needs) (λ c. search needs) returns)

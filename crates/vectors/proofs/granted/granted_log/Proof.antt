@@ -9,14 +9,8 @@ use Rattle.model.proofs.Shapes.PlaceLaws.{size-large}
 use Rattle.vectors.proofs.granted.granted_log.Statement.{statement}
 use Rattle.vectors.proofs.granted.granted_log.Tie as tie
 
-add-at : tie.Need-add-at
-add-at c = search needs
-
 element-copy-out-enable : tie.Need-element-copy-out-enable
 element-copy-out-enable c = omega (arith, size-large (c .before .args .s))
-
-cast-enable : tie.Need-cast-enable
-cast-enable c = search needs
 
 returns : tie.Need-returns
 unfolding enableField field
@@ -28,4 +22,4 @@ returns-2 c = (λ t. sym (min-eq-right (c .if1 .left)), omega arith)
 
 pub granted-log-spec : {M : Type 1} → statement M
 granted-log-spec =
-    tie.close (tie.spec add-at element-copy-out-enable cast-enable returns returns-2)
+    tie.close (tie.spec (λ c. search needs) element-copy-out-enable (λ c. search needs) returns returns-2)

@@ -19,21 +19,6 @@ low-bits x g = omega (arith, div-add-mod' x g)
 small : (x g : ℕ) → x < 65536 → x - x % g < 65536
 small x g h = omega arith
 
-granted-requires : tie.Need-granted-requires
-granted-requires c κs = search needs
-
-msi-data-requires : tie.Need-msi-data-requires
-msi-data-requires c κs = search needs
-
-rem-low : tie.Need-rem-low
-rem-low c = search needs
-
-msi-upper-requires : tie.Need-msi-upper-requires
-msi-upper-requires c κs = search needs
-
-add-word32 : tie.Need-add-word32
-add-word32 c = search needs
-
 word32-requires : tie.Need-word32-requires
 word32-requires c κs =
     let a = c .before .before .before .before .before in
@@ -57,11 +42,7 @@ pub msi-base-spec : {M : Type 1} → statement M
 msi-base-spec =
     tie.close
     (tie.spec
-    granted-requires
-    msi-data-requires
-    rem-low
-    msi-upper-requires
-    add-word32
+    (λ c κs. search needs) (λ c κs. search needs) (λ c. search needs) (λ c κs. search needs) (λ c. search needs)
     word32-requires
     sub-t12
     returns)

@@ -25,9 +25,6 @@ word16-requires c κs =
     let n : length (now (start .args .c)) ≡ 256 = search needs in
     omega (arith, inside start, n)
 
-cast-result : tie.Need-cast-result
-cast-result c = search needs
-
 returns : tie.Need-returns
 unfolding msiData
 returns c =
@@ -37,4 +34,4 @@ returns c =
     (λ t. c .word16 .ensures ∙ ap (λ (m : Form). word16 (now (a .c)) (a .s .msi .at + m .message)) (start .pre .1), search needs)
 
 pub msi-data-spec : {M : Type 1} → statement M
-msi-data-spec = tie.close (tie.spec add-word16 word16-requires cast-result returns)
+msi-data-spec = tie.close (tie.spec add-word16 word16-requires (λ c. search needs) returns)

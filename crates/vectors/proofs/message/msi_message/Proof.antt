@@ -10,15 +10,6 @@ use Rattle.vectors.proofs.MessageLaws.{base-message}
 use Rattle.vectors.proofs.message.msi_message.Statement.{statement}
 use Rattle.vectors.proofs.message.msi_message.Tie as tie
 
-msi-base-requires : tie.Need-msi-base-requires
-msi-base-requires c κs = search needs
-
-cast-t6 : tie.Need-cast-t6
-cast-t6 c = search needs
-
-add-t7 : tie.Need-add-t7
-add-t7 c = search needs
-
 returns : tie.Need-returns
 returns c =
     let at-msi-base = c .before .before in
@@ -29,4 +20,4 @@ returns c =
     ∙ base-message (a .s) (regs (now (a .c)) t) requester (a .v .0)
 
 pub msi-message-spec : {M : Type 1} → statement M
-msi-message-spec = tie.close (tie.spec msi-base-requires cast-t6 add-t7 returns)
+msi-message-spec = tie.close (tie.spec (λ c κs. search needs) (λ c. search needs) (λ c. search needs) returns)

@@ -20,9 +20,6 @@ returns c =
     let a = c .before .before .args in
     λ t. no-upper (a .s) (regs (now (a .c)) t) (not-true (a .s .msi .wide) (c .if1 .taken))
 
-add-word32 : tie.Need-add-word32
-add-word32 c = search needs
-
 word32-requires : tie.Need-word32-requires
 word32-requires c κs =
     let at-if1 = c .before .before in
@@ -38,4 +35,4 @@ returns-2 c =
     λ t. c .word32 .ensures ∙ has-upper (a .s) (regs (now (a .c)) t) (is-wide at-if1)
 
 pub msi-upper-spec : {M : Type 1} → statement M
-msi-upper-spec = tie.close (tie.spec returns add-word32 word32-requires returns-2)
+msi-upper-spec = tie.close (tie.spec returns (λ c. search needs) word32-requires returns-2)

@@ -7,33 +7,12 @@ use Rattle.vectors.proofs.message.put_entry.Statement.{statement}
 use Rattle.vectors.proofs.message.put_entry.Tie as tie
 use Rattle.model.specs.Packets.{entryMessage}
 
-mul-at : tie.Need-mul-at
-mul-at c = search needs
-
-word32-requires : tie.Need-word32-requires
-word32-requires c κs = search needs
-
-add-word32 : tie.Need-add-word32
-add-word32 c = search needs
-
-word32-requires-2 : tie.Need-word32-requires-2
-word32-requires-2 c κs = search needs
-
-add-word32-2 : tie.Need-add-word32-2
-add-word32-2 c = search needs
-
-word32-requires-3 : tie.Need-word32-requires-3
-word32-requires-3 c κs = search needs
-
 put-message-requires : tie.Need-put-message-requires
 put-message-requires c κs =
     let at-word322 = c .before .before in
     let start = at-word322 .before .before .before .before in
     let a = start .args in
     simp (at-word322 .word322 .ensures) (omega (arith, entry-length (a .requester) (now (a .table)) (a .v), start .pre .1))
-
-same-length : tie.Need-same-length
-same-length c = search needs
 
 returns : tie.Need-returns
 unfolding entryMessage
@@ -48,12 +27,8 @@ pub put-entry-spec : {M : Type 1} → statement M
 put-entry-spec =
     tie.close
     (tie.spec
-    mul-at
-    word32-requires
-    add-word32
-    word32-requires-2
-    add-word32-2
-    word32-requires-3
+    (λ c. search needs) (λ c κs. search needs) (λ c. search needs) (λ c κs. search needs) (λ c. search needs)
+    (λ c κs. search needs)
     put-message-requires
-    same-length
+    (λ c. search needs)
     returns)

@@ -6,19 +6,10 @@ use Rattle.vectors.proofs.CountLaws.{pin-has-none, entry-inside}
 use Rattle.vectors.proofs.message.vector_message.Statement.{statement}
 use Rattle.vectors.proofs.message.vector_message.Tie as tie
 
-enum-told : tie.Need-enum-told
-enum-told c = search needs
-
-enum-told-2 : tie.Need-enum-told-2
-enum-told-2 c = search needs
-
 msi-message-requires : tie.Need-msi-message-requires
 msi-message-requires c κs =
     let k = c .before .before .before .pre .0 in
     (k .fits, k .form)
-
-enum-told-3 : tie.Need-enum-told-3
-enum-told-3 c = search needs
 
 msix-message-requires : tie.Need-msix-message-requires
 msix-message-requires c κs =
@@ -46,10 +37,9 @@ pub vector-message-spec : {M : Type 1} → statement M
 vector-message-spec =
     tie.close
     (tie.spec
-    enum-told
-    enum-told-2
+    (λ c. search needs) (λ c. search needs)
     msi-message-requires
-    enum-told-3
+    (λ c. search needs)
     msix-message-requires
     returns
     returns-2

@@ -4,12 +4,9 @@ use Rattle.model.specs.Vectors.{commandBit}
 use Rattle.vectors.proofs.mode.command_bit.Statement.{statement}
 use Rattle.vectors.proofs.mode.command_bit.Tie as tie
 
-config-bit-requires : tie.Need-config-bit-requires
-config-bit-requires c κs = search needs
-
 returns : tie.Need-returns
 unfolding commandBit
 returns c = λ t. c .config-bit .ensures
 
 pub command-bit-spec : {M : Type 1} → statement M
-command-bit-spec = tie.close (tie.spec config-bit-requires returns)
+command-bit-spec = tie.close (tie.spec (λ c κs. search needs) returns)

@@ -5,15 +5,9 @@ use Rattle.model.specs.Vectors.{modeOf}
 use Rattle.vectors.proofs.mode.mode.Statement.{statement}
 use Rattle.vectors.proofs.mode.mode.Tie as tie
 
-msix-on-requires : tie.Need-msix-on-requires
-msix-on-requires c κs = search needs
-
 returns : tie.Need-returns
 unfolding modeOf
 returns c = λ t. rw (sym (c .before .msix-on .ensures t) ∙ c .if1 .taken)
-
-msi-on-requires : tie.Need-msi-on-requires
-msi-on-requires c κs = search needs
 
 returns-2 : tie.Need-returns-2
 unfolding modeOf
@@ -24,4 +18,4 @@ unfolding modeOf
 returns-3 c = λ t. rw (sym (c .before .before .before .msix-on .ensures t) ∙ c .before .before .if1 .left, sym (c .before .msi-on .ensures t) ∙ c .if2 .left)
 
 pub mode-spec : {M : Type 1} → statement M
-mode-spec = tie.close (tie.spec msix-on-requires returns msi-on-requires returns-2 returns-3)
+mode-spec = tie.close (tie.spec (λ c κs. search needs) returns (λ c κs. search needs) returns-2 returns-3)

@@ -6,9 +6,6 @@ use Rattle.model.specs.Vectors.{msiControlBit}
 use Rattle.vectors.proofs.mode.msi_control_bit.Statement.{statement}
 use Rattle.vectors.proofs.mode.msi_control_bit.Tie as tie
 
-add-config-bit : tie.Need-add-config-bit
-add-config-bit c = search needs
-
 config-bit-requires : tie.Need-config-bit-requires
 config-bit-requires c κs = omega (arith, size-large (c .before .args .s))
 
@@ -17,4 +14,4 @@ unfolding msiControlBit
 returns c = λ t. c .config-bit .ensures
 
 pub msi-control-bit-spec : {M : Type 1} → statement M
-msi-control-bit-spec = tie.close (tie.spec add-config-bit config-bit-requires returns)
+msi-control-bit-spec = tie.close (tie.spec (λ c. search needs) config-bit-requires returns)

@@ -7,11 +7,8 @@ use Rattle.vectors.proofs.mode.msi_on.Tie as tie
 returns : tie.Need-returns
 returns c = λ t. rw (msi-absent (c .before .before .args .s) (c .if1 .taken))
 
-msi-control-bit-requires : tie.Need-msi-control-bit-requires
-msi-control-bit-requires c κs = search needs
-
 returns-2 : tie.Need-returns-2
 returns-2 c = λ t. rw (msi-there (c .before .before .before .args .s) (c .before .if1 .left)) (c .msi-control-bit .ensures t)
 
 pub msi-on-spec : {M : Type 1} → statement M
-msi-on-spec = tie.close (tie.spec returns msi-control-bit-requires returns-2)
+msi-on-spec = tie.close (tie.spec returns (λ c κs. search needs) returns-2)

@@ -7,11 +7,8 @@ use Rattle.vectors.proofs.mode.msix_on.Tie as tie
 returns : tie.Need-returns
 returns c = λ t. rw (msix-absent (c .before .before .args .s) (c .if1 .taken))
 
-msix-control-bit-requires : tie.Need-msix-control-bit-requires
-msix-control-bit-requires c κs = search needs
-
 returns-2 : tie.Need-returns-2
 returns-2 c = λ t. rw (msix-there (c .before .before .before .args .s) (c .before .if1 .left)) (c .msix-control-bit .ensures t)
 
 pub msix-on-spec : {M : Type 1} → statement M
-msix-on-spec = tie.close (tie.spec returns msix-control-bit-requires returns-2)
+msix-on-spec = tie.close (tie.spec returns (λ c κs. search needs) returns-2)

@@ -7,17 +7,8 @@ use Rattle.vectors.proofs.MsiLaws.{open-below}
 use Rattle.vectors.proofs.msi.msi_is_open.Statement.{statement}
 use Rattle.vectors.proofs.msi.msi_is_open.Tie as tie
 
-cast-n : tie.Need-cast-n
-cast-n c = search needs
-
 returns : tie.Need-returns
 returns c = let a = c .before .before .args in λ t. sym (open-below (a .s) (regs (now (a .c)) t) (a .v .0) (c .before .before .pre .0 .capable) (c .if1 .taken))
-
-msi-open-requires : tie.Need-msi-open-requires
-msi-open-requires c κs = search needs
-
-word-bit-requires : tie.Need-word-bit-requires
-word-bit-requires c κs = search needs
 
 returns-2 : tie.Need-returns-2
 returns-2 c =
@@ -26,4 +17,4 @@ returns-2 c =
 
 pub msi-is-open-spec : {M : Type 1} → statement M
 msi-is-open-spec =
-    tie.close (tie.spec cast-n returns msi-open-requires word-bit-requires returns-2)
+    tie.close (tie.spec (λ c. search needs) returns (λ c κs. search needs) (λ c κs. search needs) returns-2)

@@ -11,23 +11,11 @@ use Rattle.vectors.proofs.MsiLaws.{no-master, by-word}
 use Rattle.vectors.proofs.msi.msi_open.Statement.{statement}
 use Rattle.vectors.proofs.msi.msi_open.Tie as tie
 
-command-bit-requires : tie.Need-command-bit-requires
-command-bit-requires c κs = search needs
-
 returns : tie.Need-returns
 returns c =
     let call = c .before .command-bit in
     let a = c .before .before .args in
     λ t. no-master (a .s) (regs (now (a .c)) t) (sym (call .ensures t) ∙ not-true (call .result) (c .if1 .taken))
-
-granted-requires : tie.Need-granted-requires
-granted-requires c κs = search needs
-
-below-requires : tie.Need-below-requires
-below-requires c κs = search needs
-
-masks-requires : tie.Need-masks-requires
-masks-requires c κs = search needs
 
 returns-2 : tie.Need-returns-2
 returns-2 c =
@@ -47,9 +35,7 @@ pub msi-open-spec : {M : Type 1} → statement M
 msi-open-spec =
     tie.close
     (tie.spec
-    command-bit-requires
+    (λ c κs. search needs)
     returns
-    granted-requires
-    below-requires
-    masks-requires
+    (λ c κs. search needs) (λ c κs. search needs) (λ c κs. search needs)
     returns-2)

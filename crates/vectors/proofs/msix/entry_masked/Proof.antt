@@ -6,17 +6,8 @@ use Rattle.vectors.proofs.MsixLaws.{entry-mask}
 use Rattle.vectors.proofs.msix.entry_masked.Statement.{statement}
 use Rattle.vectors.proofs.msix.entry_masked.Tie as tie
 
-mul-result : tie.Need-mul-result
-mul-result c = search needs
-
-add-result : tie.Need-add-result
-add-result c = search needs
-
-shared-slice-read-result : tie.Need-shared-slice-read-result
-shared-slice-read-result c = search needs
-
 returns : tie.Need-returns
 returns c = λ s d. entry-mask s (regs d (now (c .before .args .table))) (c .before .args .v)
 
 pub entry-masked-spec : {M : Type 1} → statement M
-entry-masked-spec = tie.close (tie.spec mul-result add-result shared-slice-read-result returns)
+entry-masked-spec = tie.close (tie.spec (λ c. search needs) (λ c. search needs) (λ c. search needs) returns)

@@ -6,17 +6,11 @@ use Rattle.vectors.specs.Enabled.{msixEnabled}
 use Rattle.vectors.proofs.msix.msix_enabled.Statement.{statement}
 use Rattle.vectors.proofs.msix.msix_enabled.Tie as tie
 
-msix-control-bit-requires : tie.Need-msix-control-bit-requires
-msix-control-bit-requires c κs = search needs
-
 returns : tie.Need-returns
 unfolding msixEnabled inForce sameMode
 returns c =
     let start = c .before .before in
     λ t. rw (start .pre .1 t, sym (c .before .msix-control-bit .ensures t) ∙ c .if1 .taken)
-
-command-bit-requires : tie.Need-command-bit-requires
-command-bit-requires c κs = search needs
 
 returns-2 : tie.Need-returns-2
 unfolding msixEnabled inForce sameMode
@@ -26,4 +20,4 @@ returns-2 c =
     λ t. rw (start .pre .1 t, sym (at-if1 .before .msix-control-bit .ensures t) ∙ at-if1 .if1 .left) (c .command-bit .ensures t)
 
 pub msix-enabled-spec : {M : Type 1} → statement M
-msix-enabled-spec = tie.close (tie.spec msix-control-bit-requires returns command-bit-requires returns-2)
+msix-enabled-spec = tie.close (tie.spec (λ c κs. search needs) returns (λ c κs. search needs) returns-2)

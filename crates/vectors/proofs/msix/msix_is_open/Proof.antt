@@ -9,9 +9,6 @@ use Rattle.vectors.proofs.MsixLaws.{no-vector, when-masked, when-clear}
 use Rattle.vectors.proofs.msix.msix_is_open.Statement.{statement}
 use Rattle.vectors.proofs.msix.msix_is_open.Tie as tie
 
-cast-n : tie.Need-cast-n
-cast-n c = search needs
-
 returns : tie.Need-returns
 returns c =
     let start = c .before .before .before .before in
@@ -30,9 +27,6 @@ returns-2 c =
     let a = start .args in
     when-masked (a .s) (regs (now (a .c)) (now (a .table))) (a .v .0) (sym (c .before .entry-masked .ensures (a .s) (now (a .c))) ∙ c .if2 .taken)
 
-msix-enabled-requires : tie.Need-msix-enabled-requires
-msix-enabled-requires c κs = search needs
-
 returns-3 : tie.Need-returns-3
 returns-3 c =
     let at-entry-masked = c .before .before in
@@ -46,4 +40,4 @@ returns-3 c =
 pub msix-is-open-spec : {M : Type 1} → statement M
 msix-is-open-spec =
     tie.close
-    (tie.spec cast-n returns entry-masked-requires returns-2 msix-enabled-requires returns-3)
+    (tie.spec (λ c. search needs) returns entry-masked-requires returns-2 (λ c κs. search needs) returns-3)

@@ -7,19 +7,10 @@ use Rattle.vectors.proofs.OpenLaws.{pin-shut}
 use Rattle.vectors.proofs.open.is_open.Statement.{statement}
 use Rattle.vectors.proofs.open.is_open.Tie as tie
 
-enum-told : tie.Need-enum-told
-enum-told c = search needs
-
-enum-told-2 : tie.Need-enum-told-2
-enum-told-2 c = search needs
-
 msi-is-open-requires : tie.Need-msi-is-open-requires
 msi-is-open-requires c κs =
     let k = c .before .before .before .pre .0 in
     (k .fits, k .form, λ t. k .mode t ∙ c .enum-told2 .given .1)
-
-enum-told-3 : tie.Need-enum-told-3
-enum-told-3 c = search needs
 
 msix-is-open-requires : tie.Need-msix-is-open-requires
 msix-is-open-requires c κs =
@@ -44,10 +35,9 @@ pub is-open-spec : {M : Type 1} → statement M
 is-open-spec =
     tie.close
     (tie.spec
-    enum-told
-    enum-told-2
+    (λ c. search needs) (λ c. search needs)
     msi-is-open-requires
-    enum-told-3
+    (λ c. search needs)
     msix-is-open-requires
     returns
     returns-2

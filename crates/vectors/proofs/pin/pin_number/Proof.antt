@@ -5,12 +5,9 @@ use Rattle.model.specs.Release.{pinNumber}
 use Rattle.vectors.proofs.pin.pin_number.Statement.{statement}
 use Rattle.vectors.proofs.pin.pin_number.Tie as tie
 
-element-copy-out-result : tie.Need-element-copy-out-result
-element-copy-out-result c = search needs
-
 returns : tie.Need-returns
 unfolding pinNumber
 returns c = λ t. refl
 
 pub pin-number-spec : {M : Type 1} → statement M
-pin-number-spec = tie.close (tie.spec element-copy-out-result returns)
+pin-number-spec = tie.close (tie.spec (λ c. search needs) returns)

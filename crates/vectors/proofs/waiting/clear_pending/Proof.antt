@@ -10,24 +10,6 @@ use Rattle.words.proofs.BitLaws.{clear-byte}
 use Rattle.vectors.proofs.waiting.clear_pending.Statement.{statement}
 use Rattle.vectors.proofs.waiting.clear_pending.Tie as tie
 
-cast-n : tie.Need-cast-n
-cast-n c = search needs
-
-cast-one : tie.Need-cast-one
-cast-one c = search needs
-
-shl-one : tie.Need-shl-one
-shl-one c = search needs
-
-slice-read-pending : tie.Need-slice-read-pending
-slice-read-pending c = search needs
-
-slice-write-pending : tie.Need-slice-write-pending
-slice-write-pending c = search needs
-
-same-length : tie.Need-same-length
-same-length c = search needs
-
 returns : tie.Need-returns
 returns c =
     let a = c .before .before .args in
@@ -37,4 +19,4 @@ returns c =
 pub clear-pending-spec : {M : Type 1} → statement M
 clear-pending-spec =
     tie.close
-    (tie.spec cast-n cast-one shl-one slice-read-pending slice-write-pending same-length returns)
+    (tie.spec (λ c. search needs) (λ c. search needs) (λ c. search needs) (λ c. search needs) (λ c. search needs) (λ c. search needs) returns)

@@ -5,17 +5,8 @@ use Rattle.words.proofs.BitLaws.{bit-above}
 use Rattle.vectors.proofs.waiting.msi_waits.Statement.{statement}
 use Rattle.vectors.proofs.waiting.msi_waits.Tie as tie
 
-cast-n : tie.Need-cast-n
-cast-n c = search needs
-
 returns : tie.Need-returns
 returns c = let a = c .before .before .args in sym (bit-above 32 (a .waiting) (a .v .0) (search needs) (c .if1 .taken))
 
-word-bit-requires : tie.Need-word-bit-requires
-word-bit-requires c κs = search needs
-
-returns-2 : tie.Need-returns-2
-returns-2 c = search needs
-
 pub msi-waits-spec : {M : Type 1} → statement M
-msi-waits-spec = tie.close (tie.spec cast-n returns word-bit-requires returns-2)
+msi-waits-spec = tie.close (tie.spec (λ c. search needs) returns (λ c κs. search needs) (λ c. search needs))

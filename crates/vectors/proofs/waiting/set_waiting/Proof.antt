@@ -5,15 +5,9 @@ use Rattle.words.specs.Bits.{setBit}
 use Rattle.vectors.proofs.waiting.set_waiting.Statement.{statement}
 use Rattle.vectors.proofs.waiting.set_waiting.Tie as tie
 
-cast-result : tie.Need-cast-result
-cast-result c = search needs
-
-shl-result : tie.Need-shl-result
-shl-result c = search needs
-
 returns : tie.Need-returns
 unfolding setBit
 returns c = rw (one-shl 32 (c .before .args .v .0) (c .before .pre))
 
 pub set-waiting-spec : {M : Type 1} → statement M
-set-waiting-spec = tie.close (tie.spec cast-result shl-result returns)
+set-waiting-spec = tie.close (tie.spec (λ c. search needs) (λ c. search needs) returns)

@@ -4,21 +4,6 @@ use Rattle.model.specs.Vectors.{waits, pendingBit}
 use Rattle.vectors.proofs.waiting.waits.Statement.{statement}
 use Rattle.vectors.proofs.waiting.waits.Tie as tie
 
-enum-told : tie.Need-enum-told
-enum-told c = search needs
-
-enum-told-2 : tie.Need-enum-told-2
-enum-told-2 c = search needs
-
-msi-waits-requires : tie.Need-msi-waits-requires
-msi-waits-requires c κs = search needs
-
-enum-told-3 : tie.Need-enum-told-3
-enum-told-3 c = search needs
-
-msix-waits-requires : tie.Need-msix-waits-requires
-msix-waits-requires c κs = search needs
-
 returns : tie.Need-returns
 unfolding waits pendingBit
 returns c = λ u. rw (c .enum-told .given .1)
@@ -35,11 +20,7 @@ pub waits-spec : {M : Type 1} → statement M
 waits-spec =
     tie.close
     (tie.spec
-    enum-told
-    enum-told-2
-    msi-waits-requires
-    enum-told-3
-    msix-waits-requires
+    (λ c. search needs) (λ c. search needs) (λ c κs. search needs) (λ c. search needs) (λ c κs. search needs)
     returns
     returns-2
     returns-3)

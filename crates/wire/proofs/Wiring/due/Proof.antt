@@ -15,15 +15,6 @@ returns-2 c = due-no-pin _ _ _ _ (search needs)
 returns-3 : tie.Need-returns-3
 returns-3 c = due-disabled _ _ _ _ (search needs)
 
-enum-told : tie.Need-enum-told
-enum-told c = search needs
-
-enum-told-2 : tie.Need-enum-told-2
-enum-told-2 c = search needs
-
-enum-told-3 : tie.Need-enum-told-3
-enum-told-3 c = search needs
-
 returns-4 : tie.Need-returns-4
 unfolding isPin
 returns-4 c = due-mode _ _ _ _ Pin (search needs) (search needs) (search needs) (c .enum-told .given .1)
@@ -43,9 +34,7 @@ due-spec =
     returns
     returns-2
     returns-3
-    enum-told
-    enum-told-2
-    enum-told-3
+    (λ c. search needs) (λ c. search needs) (λ c. search needs)
     returns-4
     returns-5
     returns-6)

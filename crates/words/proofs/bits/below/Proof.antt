@@ -7,9 +7,6 @@ use Rattle.words.proofs.LowestLaws.{one-shl}
 use Rattle.words.proofs.bits.below.Statement.{statement}
 use Rattle.words.proofs.bits.below.Tie as tie
 
-shl-result : tie.Need-shl-result
-shl-result c = search needs
-
 sub-result : tie.Need-sub-result
 sub-result c = rw (one-shl 64 (c .args .n) (omega arith)) (pow-pos (c .args .n))
 
@@ -23,4 +20,4 @@ returns : tie.Need-returns
 returns c = rw (one-shl 64 (c .args .n) (omega arith))
 
 pub below-spec : {M : Type 1} → statement M
-below-spec = tie.close (tie.spec shl-result sub-result cast-result returns)
+below-spec = tie.close (tie.spec (λ c. search needs) sub-result cast-result returns)

@@ -5,15 +5,9 @@ use Rattle.words.specs.Bits.{bit}
 use Rattle.words.proofs.bits.word_bit.Statement.{statement}
 use Rattle.words.proofs.bits.word_bit.Tie as tie
 
-cast-result : tie.Need-cast-result
-cast-result c = search needs
-
-shr-result : tie.Need-shr-result
-shr-result c = search needs
-
 returns : tie.Need-returns
 unfolding bit
 returns c = refl
 
 pub word-bit-spec : {M : Type 1} → statement M
-word-bit-spec = tie.close (tie.spec cast-result shr-result returns)
+word-bit-spec = tie.close (tie.spec (λ c. search needs) (λ c. search needs) returns)

@@ -13,9 +13,6 @@ returns-2 c =
     let a = c .before .before .before .args in
     (first (a .self) (a .at) (a .hit) (c .before .before .if1 .left) (c .if2 .taken), omega arith)
 
-add-t5 : tie.Need-add-t5
-add-t5 c = search needs
-
 returns-3 : tie.Need-returns-3
 returns-3 c =
     let at-if1 = c .before .before .before in
@@ -24,4 +21,4 @@ returns-3 c =
     (again (a .self) (a .at) (a .hit) (at-if1 .if1 .left) (c .before .if2 .left), omega arith)
 
 pub with-spec : {M : Type 1} → statement M
-with-spec = tie.close (tie.spec returns returns-2 add-t5 returns-3)
+with-spec = tie.close (tie.spec returns returns-2 (λ c. search needs) returns-3)
