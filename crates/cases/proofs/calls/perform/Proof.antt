@@ -22,6 +22,10 @@ given s k =
     let args = s .args in
     operate (worldOf (args .card) (now (args .table)) (now (args .pending))) (operationBy k (now (args .bytes)) (args .row) (now (args .out)))
 
+-- the start of the call, seen from its match
+abbrev start : tie.After-struct-known → tie.Start
+start c = c .before .before .before .before .before
+
 by-letter : (s : tie.Start) (k : ℕ) {r : Calls.Outcome} → s .args .row .kind ≡ k → r ≡ given s k → r ≡ given s (s .args .row .kind)
 by-letter s k e q = q ∙ sym (ap (given s) e)
 
@@ -37,7 +41,7 @@ unfolding operationBy roomBy
 returns c =
     let at-call = c .before .before .before .before in
     let at-arm = at-call .before .before .before in
-    let s = at-arm .before .before .before .before .before .before in
+    let s = start (at-arm .before) in
     let args = s .args in
     silent s 115 _ _ _ (at-arm .match .keys1) refl
     (at-call .start .ensures ∙ start-anywhere (args .card) (now (args .table)) (now (args .pending)) _ _ _ _)
@@ -46,47 +50,48 @@ returns-2 : tie.Need-returns-2
 unfolding operationBy roomBy
 returns-2 c =
     let at-arm = c .before .before .before in
-    silent (at-arm .before .before .before .before .before .before) 114 _ _ _ (at-arm .match .keys2) refl (c .config-read .ensures)
+    silent (start (at-arm .before)) 114 _ _ _ (at-arm .match .keys2) refl (c .config-read .ensures)
 
 returns-3 : tie.Need-returns-3
 unfolding operationBy roomBy
 returns-3 c =
     let at-arm = c .before .before .before .before in
-    silent (at-arm .before .before .before .before .before .before) 82 _ _ _ (at-arm .match .keys3) refl (c .bar-read .ensures)
+    silent (start (at-arm .before)) 82 _ _ _ (at-arm .match .keys3) refl (c .bar-read .ensures)
 
 returns-4 : tie.Need-returns-4
 unfolding operationBy
 returns-4 c =
     let at-call = c .before .before .before .before in
     let at-arm = at-call .before .before .before .before in
-    by-letter (at-arm .before .before .before .before .before .before) 119 (at-arm .match .keys4) (at-call .config-write .ensures)
+    by-letter (start (at-arm .before)) 119 (at-arm .match .keys4) (at-call .config-write .ensures)
 
 returns-5 : tie.Need-returns-5
 unfolding operationBy
 returns-5 c =
     let at-call = c .before .before .before .before .before .before in
     let at-arm = at-call .before .before .before .before .before .before in
-    by-letter (at-arm .before .before .before .before .before .before) 87 (at-arm .match .keys5) (at-call .bar-write .ensures)
+    by-letter (start (at-arm .before)) 87 (at-arm .match .keys5) (at-call .bar-write .ensures)
 
 returns-6 : tie.Need-returns-6
 unfolding operationBy
 returns-6 c =
     let at-call = c .before .before in
     let at-arm = at-call .before .before .before .before .before in
-    by-letter (at-arm .before .before .before .before .before .before) 108 (at-arm .match .keys6) (at-call .line .ensures)
+    by-letter (start (at-arm .before)) 108 (at-arm .match .keys6) (at-call .line .ensures)
 
 returns-7 : tie.Need-returns-7
 unfolding operationBy
 returns-7 c =
     let at-call = c .before .before .before .before in
     let at-arm = at-call .before .before .before .before in
-    by-letter (at-arm .before .before .before .before .before .before) 101 (at-arm .match .keys7) (at-call .event .ensures)
+    by-letter (start (at-arm .before)) 101 (at-arm .match .keys7) (at-call .event .ensures)
 
 returns-8 : tie.Need-returns-8
 unfolding operationBy
 returns-8 c =
     let at-call = c .before .before in
-    let n = at-call .before .before .before .before .match .rest in
+    let at-arm = at-call .before .before .before .before in
+    let n = at-arm .match .rest in
     let m = n .0 .0 .0 in
     rw (ne-eqb _ 115 (m .0 .0 .0 .1), ne-eqb _ 114 (m .0 .0 .1), ne-eqb _ 82 (m .0 .1), ne-eqb _ 119 (m .1), ne-eqb _ 87 (n .0 .0 .1))
     (rw (ne-eqb _ 108 (n .0 .1), ne-eqb _ 101 (n .1)) (at-call .save .ensures))
