@@ -49,7 +49,17 @@ pub fn bar_read(
 ) -> Outcome
     ensures { λ r. ⌜ after r (now (table .entry)) (now (pending .entry)) [] ≡ step (worldOf card (now (table .entry)) (now (pending .entry))) (barRead bar offset width) ⌝ }
 {
-    let checked = check(card, table, pending);
+    let checked = check(
+        &card.function.config,
+        &card.function.sizes,
+        card.function.events,
+        card.function.requester,
+        card.function.line,
+        card.function.waiting,
+        card.wire,
+        table,
+        pending,
+    );
     if !checked.sound {
         return refused(card, 1);
     }

@@ -102,7 +102,17 @@ pub fn bar_write(
     ensures { λ r. ⌜ after r (now (table .exit)) (now (pending .exit)) (now (out .exit))
         ≡ step (worldOf card (now (table .entry)) (now (pending .entry))) (barWrite bar offset width value (now (out .entry))) ⌝ }
 {
-    let checked = check(card, table, pending);
+    let checked = check(
+        &card.function.config,
+        &card.function.sizes,
+        card.function.events,
+        card.function.requester,
+        card.function.line,
+        card.function.waiting,
+        card.wire,
+        table,
+        pending,
+    );
     if !checked.sound {
         return refused(card, 1);
     }

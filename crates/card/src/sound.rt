@@ -7,7 +7,6 @@ ghost use Rattle.model.specs.Release.{pinNumber};
 ghost use Rattle.vectors.specs.Given.{regs};
 ghost use Rattle.wire.specs.Wires as Wires;
 ghost use Rattle.card.specs.Running.{Checks, cardWith};
-use model::Card;
 use model::Mode;
 use model::Profile;
 use wire::Wiring;
@@ -34,8 +33,9 @@ fn wiring(config: &[u8; 256], line: bool, wire: bool, mode: Mode) -> Wiring
     }
 }
 
-// A card in parts: whether it is sound, and what is worked out in finding it so.
-fn check_parts<'a>(
+// Refusal 1 of every call but start and restore. The card comes in parts, so that its arrays are lent and not copied. What is
+// worked out here once is handed to the call.
+pub fn check<'a>(
     config: &'a [u8; 256],
     sizes: &'a [u32; 6],
     events: u16,
@@ -65,21 +65,4 @@ fn check_parts<'a>(
         profile,
         wiring,
     }
-}
-
-// Refusal 1 of every call but start and restore. What is worked out here once is handed to the call.
-pub fn check(card: Card, table: &[u8], pending: &[u8]) -> Checked
-    ensures { λ r. ⌜ Checks card (now (table .entry)) (now (pending .entry)) r ⌝ }
-{
-    check_parts(
-        &card.function.config,
-        &card.function.sizes,
-        card.function.events,
-        card.function.requester,
-        card.function.line,
-        card.function.waiting,
-        card.wire,
-        table,
-        pending,
-    )
 }

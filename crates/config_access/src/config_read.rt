@@ -45,7 +45,17 @@ pub fn config_read_core(
 pub fn config_read(card: Card, table: &[u8], pending: &[u8], offset: u16, width: u8) -> Outcome
     ensures { λ r. ⌜ after r (now (table .entry)) (now (pending .entry)) [] ≡ step (worldOf card (now (table .entry)) (now (pending .entry))) (configRead offset width) ⌝ }
 {
-    let checked = check(card, table, pending);
+    let checked = check(
+        &card.function.config,
+        &card.function.sizes,
+        card.function.events,
+        card.function.requester,
+        card.function.line,
+        card.function.waiting,
+        card.wire,
+        table,
+        pending,
+    );
     if !checked.sound {
         return refused(card, 1);
     }

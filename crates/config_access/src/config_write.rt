@@ -63,7 +63,17 @@ pub fn config_write(
     ensures { λ r. ⌜ after r (now (table .entry)) (now (pending .exit)) (now (out .exit))
         ≡ step (worldOf card (now (table .entry)) (now (pending .entry))) (configWrite offset width value (now (out .entry))) ⌝ }
 {
-    let checked = card::sound::check(card, table, pending);
+    let checked = card::sound::check(
+        &card.function.config,
+        &card.function.sizes,
+        card.function.events,
+        card.function.requester,
+        card.function.line,
+        card.function.waiting,
+        card.wire,
+        table,
+        pending,
+    );
     if !checked.sound {
         return refused(card, 1);
     }

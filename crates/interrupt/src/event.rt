@@ -154,7 +154,17 @@ pub fn event_core(
 pub fn event(card: Card, table: &[u8], pending: &mut [u8], number: u16, out: &mut [u8]) -> Outcome
     ensures { λ r. ⌜ after r (now (table .entry)) (now (pending .exit)) (now (out .exit)) ≡ step (worldOf card (now (table .entry)) (now (pending .entry))) (event number (now (out .entry))) ⌝ }
 {
-    let checked = card::sound::check(card, table, pending);
+    let checked = card::sound::check(
+        &card.function.config,
+        &card.function.sizes,
+        card.function.events,
+        card.function.requester,
+        card.function.line,
+        card.function.waiting,
+        card.wire,
+        table,
+        pending,
+    );
     if !checked.sound {
         return refused(card, 1);
     }

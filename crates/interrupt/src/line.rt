@@ -39,7 +39,17 @@ pub fn line_core(
 pub fn line(card: Card, table: &[u8], pending: &[u8], level: bool, out: &mut [u8]) -> Outcome
     ensures { λ r. ⌜ after r (now (table .entry)) (now (pending .entry)) (now (out .exit)) ≡ step (worldOf card (now (table .entry)) (now (pending .entry))) (line level (now (out .entry))) ⌝ }
 {
-    let checked = card::sound::check(card, table, pending);
+    let checked = card::sound::check(
+        &card.function.config,
+        &card.function.sizes,
+        card.function.events,
+        card.function.requester,
+        card.function.line,
+        card.function.waiting,
+        card.wire,
+        table,
+        pending,
+    );
     if !checked.sound {
         return refused(card, 1);
     }

@@ -64,7 +64,17 @@ pub fn reset_core(
 pub fn reset(card: Card, table: &mut [u8], pending: &mut [u8], out: &mut [u8]) -> Outcome
     ensures { λ r. ⌜ after r (now (table .exit)) (now (pending .exit)) (now (out .exit)) ≡ step (worldOf card (now (table .entry)) (now (pending .entry))) (reset (now (out .entry))) ⌝ }
 {
-    let checked = card::sound::check(card, table, pending);
+    let checked = card::sound::check(
+        &card.function.config,
+        &card.function.sizes,
+        card.function.events,
+        card.function.requester,
+        card.function.line,
+        card.function.waiting,
+        card.wire,
+        table,
+        pending,
+    );
     if !checked.sound {
         return refused(card, 1);
     }

@@ -47,6 +47,16 @@ pub fn is_saved(image: &[u8], card: Card, n: usize) -> bool
     if image.len() < middle {
         return false;
     }
-    let found = card::sound::check(card, &image[start..middle], &image[middle..]);
+    let found = card::sound::check(
+        &card.function.config,
+        &card.function.sizes,
+        card.function.events,
+        card.function.requester,
+        card.function.line,
+        card.function.waiting,
+        card.wire,
+        &image[start..middle],
+        &image[middle..],
+    );
     found.sound
 }

@@ -28,7 +28,17 @@ pub fn save_core(card: Card, k: Profile, table: &[u8], pending: &[u8], out: &mut
 pub fn save(card: Card, table: &[u8], pending: &[u8], out: &mut [u8]) -> Outcome
     ensures { λ r. ⌜ after r (now (table .entry)) (now (pending .entry)) (now (out .exit)) ≡ step (worldOf card (now (table .entry)) (now (pending .entry))) (save (now (out .entry))) ⌝ }
 {
-    let checked = card::sound::check(card, table, pending);
+    let checked = card::sound::check(
+        &card.function.config,
+        &card.function.sizes,
+        card.function.events,
+        card.function.requester,
+        card.function.line,
+        card.function.waiting,
+        card.wire,
+        table,
+        pending,
+    );
     if !checked.sound {
         return refused(card, 1);
     }

@@ -23,7 +23,7 @@ returns-2 c =
 
 returns-3 : tie.Need-returns-3
 returns-3 c =
-    let at-if2 = c .before .before .before in
+    let at-if2 = c .before .before .before .before .before .before in
     let at-if1 = at-if2 .before in
     let at-flags-clean = at-if1 .before in
     let at-shared-slice-known = at-flags-clean .before in

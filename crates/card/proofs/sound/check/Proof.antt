@@ -4,8 +4,8 @@ use Rattle.model.specs.declared.Card.{Card}
 use Rattle.card.specs.Running.{cardWith}
 use Rattle.card.proofs.SoundFor.{check-function, check-wire}
 use borrow.Author.Needs.{needs}
-use Rattle.card.proofs.sound.check_parts.Statement.{statement}
-use Rattle.card.proofs.sound.check_parts.Tie as tie
+use Rattle.card.proofs.sound.check.Statement.{statement}
+use Rattle.card.proofs.sound.check.Tie as tie
 
 -- the card of the parts
 abbrev card-of : tie.Start → Card
@@ -28,5 +28,5 @@ returns-2 c =
     let start = at-check .before .before .before in
     check-wire (card-of start) _ _ _ (at-check .check .ensures _) _ (at-wiring .wiring .ensures) (at-if1 .if1 .left) _ (c .due .ensures)
 
-pub check-parts-spec : {M : Type 1} → statement M
-check-parts-spec = tie.close (tie.spec (λ c κs. search needs) (λ c κs. search needs) returns (λ c κs. search needs) returns-2)
+pub check-spec : {M : Type 1} → statement M
+check-spec = tie.close (tie.spec (λ c κs. search needs) (λ c κs. search needs) returns (λ c κs. search needs) returns-2)
