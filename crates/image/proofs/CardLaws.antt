@@ -1,12 +1,12 @@
 -- A card's bytes and an image's, how many there are, and what they hold. Assumes nothing.
 use mathlib.Core.Path.{_≡_, refl, ap, _∙_}
-use mathlib.Core.List.{List, [], _++_}
-use Prim.Native.Nat.{ℕ, _*_}
+use mathlib.Core.List.{List, [], _∷_, _++_}
+use Prim.Native.Nat.{ℕ, _+_, _*_}
 use native.Mathlib.Omega.{arith}
-use lib.ListN.{length, length-append}
+use lib.ListN.{length, drop, length-append}
 use Rattle.words.specs.Lists.{join}
-use Rattle.words.specs.Bytes.{bytesOf}
-use Rattle.words.proofs.ByteLaws.{length-join32}
+use Rattle.words.specs.Bytes.{bytesOf, word32, words32}
+use Rattle.words.proofs.ByteLaws.{length-join32, word-drop}
 use Rattle.model.specs.declared.Card.{Card}
 use Rattle.model.specs.World.{worldOf}
 use Rattle.model.specs.Image.{mark, flags, cardBytes, imageOf, functionIn, functionFrom}
@@ -53,3 +53,9 @@ image-size card table pending z c =
 pub from-start : (l : List ℕ) → functionFrom 0 l ≡ functionIn l
 unfolding functionFrom
 from-start l = refl
+
+-- the six sizes from place `at` on
+pub six-sizes : (s : List ℕ) (at : ℕ)
+    → words32 6 (drop at s) ≡ word32 s at ∷ word32 s (at + 4) ∷ word32 s (at + 8) ∷ word32 s (at + 12) ∷ word32 s (at + 16) ∷ word32 s (at + 20) ∷ []
+unfolding words32
+six-sizes s at = let e : at + 0 ≡ at = omega arith in simp (word-drop, e)

@@ -51,11 +51,14 @@ fn sizes_at(s: &[u8], at: usize) -> [u32; 6]
     requires { ⌜ at + 24 ≤ length (now s) ⌝ }
     ensures { λ r. ⌜ r ≡ words32 6 (drop at (now (s .entry))) ⌝ }
 {
-    let mut sizes = [0u32; 6];
-    for i in 0..6 {
-        sizes[i] = words::get::word32(s, at + 4 * i);
-    }
-    sizes
+    [
+        words::get::word32(s, at),
+        words::get::word32(s, at + 4),
+        words::get::word32(s, at + 8),
+        words::get::word32(s, at + 12),
+        words::get::word32(s, at + 16),
+        words::get::word32(s, at + 20),
+    ]
 }
 
 // Of an image's bytes from offset `first` on: the flags, of which bit 0 is the line and bit 1 the wire.
