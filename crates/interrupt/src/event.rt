@@ -12,8 +12,7 @@ ghost use Rattle.model.specs.Release.{raiseVector};
 ghost use Rattle.model.specs.Calls.{performed, step, event, raiseOf};
 ghost use Rattle.vectors.specs.Given.{Profiled};
 ghost use Rattle.card.specs.Outcomes.{after};
-ghost use Rattle.card.specs.Running.{Running};
-ghost use Rattle.interrupt.specs.Raises.{sentBy, eachCard, fated};
+ghost use Rattle.interrupt.specs.Raises.{sentBy, eachCard, eachRunning, SomeRunning, fated};
 use card::outcome::Outcome;
 use card::outcome::accepted;
 use card::outcome::refused;
@@ -25,11 +24,11 @@ use model::Profile;
 use model::Shape;
 use model::Vector;
 
-// What became of an event for a vector: its answer, or the refusal 6; how many bytes were sent; and MSI's waiting bits after it.
-struct Fate {
-    answer: Answer,
-    count: usize,
-    waiting: u32,
+// What became of an event: its answer or refusal; how many bytes were sent; and MSI's waiting bits after it.
+pub struct Fate {
+    pub answer: Answer,
+    pub count: usize,
+    pub waiting: u32,
 }
 
 // The waiting bit of vector v set, MSI's in the word that is given and handed back.
@@ -115,40 +114,40 @@ fn raise(
     }
 }
 
-// Event `number` on a sound card: its vector is sent, held or merged; with the pin in force the event is lost.
+// Event `number` on a sound card with these parts: its vector is sent, held or merged; with the pin in force the event is lost.
 pub fn event_core(
-    card: Card,
+    config: &[u8; 256],
+    events: u16,
+    requester: u16,
+    waiting: u32,
     k: Profile,
     table: &[u8],
     pending: &mut [u8],
     number: u16,
     out: &mut [u8],
-) -> Outcome
-    requires { ⌜ Running card (now table) (now pending) k ⌝ }
-    ensures { λ r. ⌜ after r (now (table .entry)) (now (pending .exit)) (now (out .exit)) ≡ performed (worldOf card (now (table .entry)) (now (pending .entry))) (event number (now (out .entry))) ⌝ }
+) -> Fate
+    requires { ⌜ SomeRunning (now config) events requester waiting (now table) (now pending) k ⌝ }
+    ensures { λ r. ⌜ eachRunning (now (config .entry)) events requester waiting (now (table .entry)) (now (pending .entry)) k
+        (λ card. after (fated card r) (now (table .entry)) (now (pending .exit)) (now (out .exit))
+        ≡ performed (worldOf card (now (table .entry)) (now (pending .entry))) (event number (now (out .entry)))) ⌝ }
 {
-    if card.function.events <= number {
-        return refused(card, 2);
+    if events <= number {
+        return Fate {
+            answer: Answer::Refused(2),
+            count: 0,
+            waiting,
+        };
     }
     let mode = k.mode;
     if vectors::mode::is_pin(mode) {
-        return accepted(card, Answer::Lost, 0);
+        return Fate {
+            answer: Answer::Lost,
+            count: 0,
+            waiting,
+        };
     }
-    let v = vectors::event::event_vector(&card.function.config, k.shape, mode, Event(number));
-    let fate = raise(
-        &card.function.config,
-        card.function.requester,
-        card.function.waiting,
-        k,
-        v,
-        table,
-        pending,
-        out,
-    );
-    let function = card::changed::with_waiting(card.function, fate.waiting);
-    let wire = card.wire;
-    let answer = fate.answer;
-    accepted(Card { function, wire }, answer, fate.count)
+    let v = vectors::event::event_vector(config, k.shape, mode, Event(number));
+    raise(config, requester, waiting, k, v, table, pending, out)
 }
 
 pub fn event(card: Card, table: &[u8], pending: &mut [u8], number: u16, out: &mut [u8]) -> Outcome
@@ -169,5 +168,19 @@ pub fn event(card: Card, table: &[u8], pending: &mut [u8], number: u16, out: &mu
         return refused(card, 1);
     }
     let k = checked.profile;
-    event_core(card, k, table, pending, number, out)
+    let fate = event_core(
+        &card.function.config,
+        card.function.events,
+        card.function.requester,
+        card.function.waiting,
+        k,
+        table,
+        pending,
+        number,
+        out,
+    );
+    let function = card::changed::with_waiting(card.function, fate.waiting);
+    let wire = card.wire;
+    let answer = fate.answer;
+    accepted(Card { function, wire }, answer, fate.count)
 }

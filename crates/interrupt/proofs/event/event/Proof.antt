@@ -1,5 +1,7 @@
--- The frame. Assumes nothing.
+-- The frame, which puts the card together. Assumes nothing.
+use mathlib.Core.Path.{_∙_}
 use Rattle.card.proofs.CallsFor.{frame-refused, frame-core, frame-runs}
+use Rattle.interrupt.proofs.EventFor.{event-fate}
 use borrow.Author.Needs.{needs}
 use Rattle.interrupt.proofs.event.event.Statement.{statement}
 use Rattle.interrupt.proofs.event.event.Tie as tie
@@ -12,16 +14,21 @@ returns c =
 
 event-core-requires : tie.Need-event-core-requires
 event-core-requires c κs =
-    let at-if1 = c .before .before .before in
+    let at-if1 = c .before .before .before .before .before in
     let at-check = at-if1 .before .before in
-    frame-runs (at-check .check .ensures) (at-if1 .if1 .left)
+    record { sizes = _; line = _; wire = _; runs = frame-runs (at-check .check .ensures) (at-if1 .if1 .left) }
 
 returns-2 : tie.Need-returns-2
 returns-2 c =
-    let at-core = c .before .before .before .before in
-    let at-if1 = at-core .before .before .before .before in
+    let at-with-waiting = c .before in
+    let at-core = at-with-waiting .before .before .before .before .before .before in
+    let at-if1 = at-core .before .before .before .before .before .before in
     let at-check = at-if1 .before .before in
-    frame-core _ _ _ _ _ (at-check .check .ensures) (at-if1 .if1 .left) _ (at-core .event-core .ensures)
+    let at-card = at-check .before .before .before .before in
+    let start = at-card .before .before .before .before in
+    let runs = frame-runs (at-check .check .ensures) (at-if1 .if1 .left) in
+    event-fate (start .args .t1) _ _ _ _ _ _ (at-with-waiting .with-waiting .ensures) (c .accepted .ensures)
+    ∙ frame-core _ _ _ _ _ (at-check .check .ensures) (at-if1 .if1 .left) _ (at-core .event-core .ensures _ _ _ runs)
 
 pub event-spec : {M : Type 1} → statement M
 event-spec =
@@ -30,5 +37,5 @@ event-spec =
     (λ c κs. search needs) (λ c κs. search needs) (λ c. search needs)
     returns
     event-core-requires
-    (λ c. search needs) (λ c. search needs)
+    (λ c κs. search needs) (λ c κs. search needs) (λ c. search needs) (λ c. search needs)
     returns-2)
