@@ -23,7 +23,8 @@ pub fn line_core(
     out: &mut [u8],
 ) -> Outcome
     requires { ⌜ Running card (now table) (now pending) k × Wires card k w ⌝ }
-    ensures { λ r. ⌜ after r (now (table .entry)) (now (pending .entry)) (now (out .exit)) ≡ performed (worldOf card (now (table .entry)) (now (pending .entry))) (line level (now (out .entry))) ⌝ }
+    ensures { λ r. ⌜ after r (now (table .entry)) (now (pending .entry)) (now (out .exit))
+        ≡ performed (worldOf card (now (table .entry)) (now (pending .entry))) (line level (now (out .entry))) ⌝ }
 {
     let wired = w.set_line(level);
     let owed = wired.owed;

@@ -53,7 +53,8 @@ fn release_word(
     at: usize,
     requester: u16,
 ) -> usize
-    requires { ⌜ Lent (now table) (now pending) × (at + 8 ≤ length (now pending)) × (length (entryPackets requester (now table) (owedWord (now table) (now pending) at)) ≤ length (now out)) ⌝ }
+    requires { ⌜ Lent (now table) (now pending) × (at + 8 ≤ length (now pending))
+        × (length (entryPackets requester (now table) (owedWord (now table) (now pending) at)) ≤ length (now out)) ⌝ }
     ensures { λ r. ⌜ Released requester (now (table .entry)) (owedWord (now (table .entry)) (now (pending .entry)) at) (now (pending .entry)) (now (out .entry)) r
         (now (pending .exit)) (now (out .exit)) ⌝ }
 {

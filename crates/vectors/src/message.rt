@@ -73,7 +73,8 @@ pub fn msi_message(c: &[u8; 256], s: Shape, f: Form, v: Vector) -> Message
 
 pub fn msix_message(table: &[u8], v: Vector) -> Message
     requires { ⌜ 16 * v .0 + 16 ≤ length (now table) ⌝ }
-    ensures { λ r. ⌜ ((s : Shape) (requester : ℕ) (c : List ℕ) → message requester (r .upper) (r .address) (r .value) ≡ messageOf Mode.Msix s requester (regs c (now (table .entry))) (v .0)) ⌝ }
+    ensures { λ r. ⌜ ((s : Shape) (requester : ℕ) (c : List ℕ)
+        → message requester (r .upper) (r .address) (r .value) ≡ messageOf Mode.Msix s requester (regs c (now (table .entry))) (v .0)) ⌝ }
 {
     let at = 16 * (v.0 as usize);
     Message {
@@ -86,7 +87,8 @@ pub fn msix_message(table: &[u8], v: Vector) -> Message
 // Of a vector of the mechanism in force.
 pub fn vector_message(c: &[u8; 256], k: Profile, table: &[u8], v: Vector) -> Message
     requires { ⌜ Profiled (now c) k × (length (now table) ≡ tableBytes (k .shape)) × (v .0 < vectorCount (k .mode) (k .shape)) ⌝ }
-    ensures { λ r. ⌜ ((requester : ℕ) → message requester (r .upper) (r .address) (r .value) ≡ messageOf (k .mode) (k .shape) requester (regs (now (c .entry)) (now (table .entry))) (v .0)) ⌝ }
+    ensures { λ r. ⌜ ((requester : ℕ)
+        → message requester (r .upper) (r .address) (r .value) ≡ messageOf (k .mode) (k .shape) requester (regs (now (c .entry)) (now (table .entry))) (v .0)) ⌝ }
 {
     let mode = k.mode;
     match mode {

@@ -24,7 +24,10 @@ given s k =
 
 -- the start of the call, seen from its match
 abbrev start : tie.After-struct-known → tie.Start
-start c = c .before .before .before .before .before
+start c =
+    let at-out = c .before in
+    let at-pending = at-out .before in
+    at-pending .before .before .before
 
 by-letter : (s : tie.Start) (k : ℕ) {r : Calls.Outcome} → s .args .row .kind ≡ k → r ≡ given s k → r ≡ given s (s .args .row .kind)
 by-letter s k e q = q ∙ sym (ap (given s) e)
