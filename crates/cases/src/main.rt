@@ -288,7 +288,7 @@ fn print_comparison(same: bool) {
     }
 }
 
-// Whether a call should do more than prepare the case: that is, answer anything but done, or send.
+// Whether a call should do more than prepare the case: that is, answer anything but done, or send; or is marked so.
 fn is_result(row: Row) -> bool {
     (row.kind != b'k') & ((row.size != 0) | (row.answer != b'd') | (row.shown == b'v'))
 }
