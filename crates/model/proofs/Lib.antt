@@ -1,4 +1,5 @@
 pub mod WaitingHistory
+pub mod EveryVector
 pub mod HistoryBits
 pub mod RestoreResumes
 pub mod Refusals
@@ -6,6 +7,8 @@ pub mod BytesBound
 pub mod ImageExact
 pub mod SoundKept
 pub mod Starred
+pub mod Examples
+pub mod Definitions
 pub mod History
 pub mod Calls
 pub mod Registers

@@ -20,21 +20,29 @@ put i (b ∷ bs) l = put (suc i) bs (set l i b)
 abbrev pub header : ℕ → List ℕ
 header pin = set (replicate 256 0) 0x3d pin
 
--- pin 1, and a list whose first capability is at 40h
-abbrev pub listed : List ℕ
-listed = set (set (header 1) 0x06 0x10) 0x34 0x40
+-- pin 1, and a list whose first pointer is p
+abbrev pub listFrom : (p : ℕ) → List ℕ
+listFrom p = set (set (header 1) 0x06 0x10) 0x34 p
 
--- MSI, Capable 3: 32-bit, and 64-bit with masks
+-- a capability at a place: its ID, the next pointer, and its control register
+abbrev pub capability : (at id next control : ℕ) → List ℕ → List ℕ
+capability at id next control c = put at (id ∷ next ∷ bytesOf 2 control) c
+
+-- MSI-X at a place: its control register, the words of its table and of its pending array, each an offset with a BAR in the low three bits
+abbrev pub msix : (at next control table pending : ℕ) → List ℕ → List ℕ
+msix at next control table pending c =
+    put (at + 4) (bytesOf 4 table) (put (at + 8) (bytesOf 4 pending) (capability at 0x11 next control c))
+
+-- MSI at 40h, Capable 3: 32-bit, and 64-bit with masks
 abbrev pub msiCard : List ℕ
-msiCard = put 0x40 (bytesOf 4 0x00060005) listed
+msiCard = capability 0x40 0x05 0 0x0006 (listFrom 0x40)
 
 abbrev pub wideMsiCard : List ℕ
-wideMsiCard = put 0x40 (bytesOf 4 0x01860005) listed
+wideMsiCard = capability 0x40 0x05 0 0x0186 (listFrom 0x40)
 
--- MSI-X with n vectors, the next capability, and the words of its table and its pending array: an offset, and a BAR in the low three bits
-abbrev pub msixCard : (link n table pending : ℕ) → List ℕ
-msixCard link n table pending =
-    put 0x48 (bytesOf 4 pending) (put 0x44 (bytesOf 4 table) (put 0x40 (bytesOf 4 ((n - 1) * 65536 + link * 256 + 0x11)) listed))
+-- MSI-X at 40h with n vectors
+abbrev pub msixCard : (next n table pending : ℕ) → List ℕ
+msixCard next n table pending = msix 0x40 next (n - 1) table pending (listFrom 0x40)
 
 -- the sizes of BARs 0 and 1
 abbrev pub sizesOf : ℕ → ℕ → List ℕ
@@ -211,11 +219,11 @@ benchCases = starredCases ++ limitCases
 
 -- MSI-X at 40h, and MSI at 50h
 abbrev pub bothCard : List ℕ
-bothCard = put 0x50 (bytesOf 4 0x00060005) (msixCard 0x50 2 0 0x1000)
+bothCard = capability 0x50 0x05 0 0x0006 (msixCard 0x50 2 0 0x1000)
 
 -- the wire with bus mastering off; what a reset leaves of a waiting vector; MSI-X over MSI with both on; a 64-bit form's data at 0Ch, its masks at 10h
 -- and its waiting bits shown at 14h
-unfoldable pub temptingCases : List (List Step)
+abbrev pub temptingCases : List (List Step)
 temptingCases =
     plainCase 1
     (drives true (wirePacket 0x20) ∷ command 0x0004 ∷ readsConfig 0x06 2 0x0008 ∷ resets (wirePacket 0x24)

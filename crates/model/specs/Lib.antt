@@ -18,3 +18,4 @@ pub mod History
 pub mod Claims
 pub mod Play
 pub mod Cases
+pub mod Examples

@@ -1,14 +1,16 @@
 -- The answers of accepted calls, and the numbers of each answer. Assumes nothing.
-use mathlib.Core.Path.{_≡_, refl, sym, _∙_}
+use mathlib.Core.Path.{_≡_, refl, sym, ap₂, _∙_}
 use mathlib.Core.Bool.{Bool, true, false, true≢false, false≢true}
-use Prim.Native.Nat.{ℕ}
-use Rattle.words.proofs.BoolLaws.{by-test, cond-elim}
+use Prim.Native.Nat.{ℕ, zero, suc}
+use lib.Dec.{eqb}
+use borrow.Author.Tests.{eqb-true}
+use Rattle.words.proofs.BoolLaws.{both, by-test, cond-elim}
 use Rattle.model.specs.declared.Answer.{Answer}
 use Rattle.model.specs.declared.Answer.the-variants.{Refused, Done, Value, Sent, Held, Merged, Lost}
 use Rattle.model.specs.declared.Mode.{Mode}
 use Rattle.model.specs.declared.Mode.the-variants.{Pin, Msi, Msix}
 use Rattle.model.specs.declared.Shape.{Shape}
-use Rattle.model.specs.Answers.{refusalOf, valueOf, eventCode, isAccepted}
+use Rattle.model.specs.Answers.{refusalOf, valueOf, eventCode, isAccepted, kindOf, detailOf, sameAnswer}
 use Rattle.model.specs.World.{Endpoint, registers}
 use Rattle.model.specs.Vectors.{modeOf, vectorOf, isOpen, waits}
 use Rattle.model.specs.Release.{Raised, raise, raiseVector, raisedBy}
@@ -137,3 +139,31 @@ not-accepted a h = by-test (isAccepted a) (λ e. absurd (h (accepted-zero a e)))
 pub refused-code : (a : Answer) → isAccepted a ≡ false → eventCode a ≡ 0
 unfolding eventCode
 refused-code a e = accepted-elim (λ x. eventCode x ≡ 0) a (λ _. refl) (λ t. absurd (true≢false (sym t ∙ e)))
+
+-- ---- two answers that are the same are equal
+
+-- the answer of a kind with a detail
+ofKind : ℕ → ℕ → Answer
+ofKind zero n = Refused n
+ofKind (suc zero) n = Done
+ofKind (suc (suc zero)) n = Value n
+ofKind (suc (suc (suc zero))) n = Sent
+ofKind (suc (suc (suc (suc zero)))) n = Held
+ofKind (suc (suc (suc (suc (suc zero))))) n = Merged
+ofKind (suc (suc (suc (suc (suc (suc k)))))) n = Lost
+
+of-kind : (a : Answer) → ofKind (kindOf a) (detailOf a) ≡ a
+unfolding ofKind
+of-kind (Refused n) = refl
+of-kind Done = refl
+of-kind (Value x) = refl
+of-kind Sent = refl
+of-kind Held = refl
+of-kind Merged = refl
+of-kind Lost = refl
+
+pub same-equal : (a b : Answer) → sameAnswer a b ≡ true → a ≡ b
+unfolding sameAnswer
+same-equal a b e =
+    let t = both (eqb (kindOf a) (kindOf b)) (eqb (detailOf a) (detailOf b)) e in
+    sym (of-kind a) ∙ ap₂ ofKind (eqb-true (kindOf a) (kindOf b) (t .0)) (eqb-true (detailOf a) (detailOf b) (t .1)) ∙ of-kind b

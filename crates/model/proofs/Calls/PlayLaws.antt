@@ -10,11 +10,13 @@ use borrow.Author.Tests.{eqb-true, eqb-false}
 use Rattle.words.specs.Lists.{same, count}
 use Rattle.words.specs.Writers.{over}
 use Rattle.words.proofs.BoolLaws.{both, and-intro, by-test, of-T}
+use Rattle.words.proofs.ListLaws.{same-true}
 use Rattle.model.specs.declared.Answer.{Answer}
 use Rattle.model.specs.Calls.{Outcome}
 use Rattle.model.specs.Answers.{sameAnswer}
 use Rattle.model.specs.Play.{Step, Played, right, played, playedAll, passes, allPass}
 use Rattle.model.specs.Cases.{starredCases, limitCases, benchCases}
+use Rattle.model.proofs.Calls.AnswerLaws.{same-equal}
 use Rattle.model.proofs.Starred.{starred, limits}
 
 -- ---- a call
@@ -24,6 +26,15 @@ pub right-by : (r : Outcome) (answer : Answer) (bytes out : List ℕ) (a b : Boo
     → (a && eqb (r .count) (length bytes) && b) ≡ right r answer bytes out
 unfolding right
 right-by r answer bytes out a b ea eb = λ i. ea i && eqb (r .count) (length bytes) && eb i
+
+-- a right outcome has this answer and just these bytes, and keeps the output behind them
+pub right-exact : (r : Outcome) (answer : Answer) (bytes out : List ℕ) → right r answer bytes out ≡ true
+    → (r .answer ≡ answer) × (r .count ≡ length bytes) × (r .output ≡ over bytes out)
+unfolding right
+right-exact r answer bytes out e =
+    let whole = both (sameAnswer (r .answer) answer && eqb (r .count) (length bytes)) (same (r .output) (over bytes out)) e in
+    let start = both (sameAnswer (r .answer) answer) (eqb (r .count) (length bytes)) (whole .0) in
+    (same-equal (r .answer) answer (start .0), eqb-true (r .count) (length bytes) (start .1), same-true (r .output) (over bytes out) (whole .1))
 
 -- an outcome is right whatever its world is
 pub right-anywhere : (r s : Outcome) (answer : Answer) (bytes out : List ℕ) → r .answer ≡ s .answer → r .count ≡ s .count → r .output ≡ s .output

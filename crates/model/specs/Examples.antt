@@ -1,0 +1,10 @@
+pub mod Parts
+pub mod Starts
+pub mod Registers
+pub mod Messages
+pub mod Vectors
+pub mod Wires
+pub mod Refusals
+pub mod Images
+pub mod Restores
+pub mod Numbers
