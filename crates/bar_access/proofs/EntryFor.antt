@@ -15,10 +15,10 @@ use Rattle.model.specs.declared.Mode.the-variants.{Msix}
 use Rattle.model.specs.declared.Profile.{Profile}
 use Rattle.model.specs.World.{Endpoint, withWaiting}
 use Rattle.model.specs.Registers.{entryWritable, written}
-use Rattle.model.specs.Vectors.{masked, sameMode, inForce, isOpen, waits}
+use Rattle.model.specs.Vectors.{masked, sameMode, isOpen, waits}
 use Rattle.model.proofs.Registers.WriteLaws.{byte-written}
 use Rattle.model.proofs.Registers.EntryLaws.{entry-writable, entry-masked}
-use Rattle.model.proofs.Vectors.SweepLaws.{in-force}
+use Rattle.model.proofs.Vectors.SweepLaws.{in-force, other-shut}
 use Rattle.vectors.specs.Given.{regs, InForce, Profiled}
 use Rattle.vectors.specs.Enabled.{msixEnabled}
 use Rattle.vectors.proofs.MsixLaws.{when-masked, when-clear}
@@ -70,8 +70,9 @@ module _ (c : List ℕ) (k : Profile) (f : Profiled c k) where
 
     -- another mechanism is in force
     pub owed-other : sameMode Msix (k .mode) ≡ false → false ≡ isOwed
-    unfolding isOpen inForce
-    owed-other h = rw (f .mode t, h)
+    owed-other h =
+        ap (λ (x : Bool). x && waits Msix (withWaiting u 0 p) v)
+        (sym (other-shut Msix (k .shape) (regs c t) v (ap (sameMode Msix) (f .mode t) ∙ h)))
 
     pub owed-idle : waits Msix (withWaiting u 0 p) v ≡ false → false ≡ isOwed
     owed-idle h = rw h (sym (and-false (isOpen Msix (k .shape) (regs c t) v)))

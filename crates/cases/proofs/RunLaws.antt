@@ -1,5 +1,5 @@
 -- A row's call by the program, and the step of the case that it is. Assumes nothing.
-use mathlib.Core.Path.{_≡_, refl, ap, ap₂, _∙_}
+use mathlib.Core.Path.{_≡_, refl, sym, ap, ap₂, _∙_}
 use mathlib.Core.Bool.{Bool, _&&_}
 use mathlib.Core.List.{List, [], _∷_, _++_}
 use Prim.Native.Nat.{ℕ, suc, _+_, _-_, _*_, _/_, _≤_, _<_, min}
@@ -15,8 +15,9 @@ use Rattle.model.specs.declared.Card.{Card}
 use Rattle.model.specs.World.{worldOf, endpointOf, zeroFunction}
 use Rattle.model.specs.Calls.{operate, startOf, startGiven}
 use Rattle.model.specs.Calls as Calls
-use Rattle.model.specs.Play.{fresh, right, played, lends, does, lentOutput}
-use Rattle.model.proofs.Calls.PlayLaws.{right-anywhere}
+use Rattle.model.specs.Play.{Played, fresh, right, played, lends, does, lentOutput}
+use Rattle.model.proofs.Calls.StartCalls.{start-buffers}
+use Rattle.model.proofs.Calls.PlayLaws.{right-anywhere, played-does, played-lends}
 use Rattle.card.specs.declared.outcome.Outcome.{Outcome}
 use Rattle.card.specs.Outcomes.{after}
 use Rattle.cases.specs.declared.row.Row.{Row}
@@ -37,8 +38,7 @@ no-output o t p (x ∷ l) r h e = absurd (omega arith)
 -- a start looks at the lent buffers alone
 pub start-anywhere : (card : Card) (t p config sizes : List ℕ) (events requester : ℕ)
     → startOf (endpointOf zeroFunction t p) (startGiven (endpointOf zeroFunction t p) config sizes events requester) ≡ operate (worldOf card t p) (Calls.start config sizes events requester)
-unfolding startOf
-start-anywhere card t p config sizes events requester = refl
+start-anywhere card t p config sizes events requester = start-buffers zeroFunction (card .function) t p _
 
 -- the output that a row's call is lent
 lent-all : (k : ℕ) (bytes : List ℕ) (row : Row) (l : List ℕ) → take (roomBy k row) l ≡ lentOutput (operationBy k bytes row (take (roomBy k row) l))
@@ -89,7 +89,6 @@ module _ (run : Run) (bytes : List ℕ) (row : Row) (o : Outcome) (t p n : ℕ) 
 pub plays : (run : Run) (bytes : List ℕ) (row : Row) (r : Called) → Runs.Calls run bytes row r → (expected : List ℕ) (answer : Answer) (good : Bool)
     → good ≡ right (after (r .outcome) [] [] (take (r .room) (r .out))) answer expected (take (r .room) (fresh 300))
     → seen (judged (r .run) good) ≡ played (seen run) (does (operationOf bytes row) expected answer)
-unfolding played
 plays run bytes row r h expected answer good e =
     let o = operate (seen run .world) (operationOf bytes row) in
     let w = ap (λ (c : Card). worldOf c (tableOf (r .run)) (pendingOf (r .run))) (h .card) ∙ ap (λ (z : Calls.Outcome). z .world) (h .outcome) in
@@ -98,16 +97,19 @@ plays run bytes row r h expected answer good e =
     ∙ right-anywhere _ o answer expected _ (ap (λ (z : Calls.Outcome). z .answer) (h .outcome)) (ap (λ (z : Calls.Outcome). z .count) (h .outcome))
     (ap (λ (z : Calls.Outcome). z .output) (h .outcome))
     ∙ ap (right o answer expected) (h .fresh) in
-    λ i. record { world = w i; good = h .good i && g i }
+    let q : Played = record { world = o .world; good = seen run .good && right o answer expected (lentOutput (operationOf bytes row)) } in
+    let e : seen (judged (r .run) good) ≡ q = λ i. record { world = w i; good = h .good i && g i } in
+    e ∙ sym (played-does (seen run) (operationOf bytes row) expected answer)
 
 -- ---- buffers
 
 pub lends-new : (run : Run) (v n : ℕ) → v ≡ min n 10 → seen (withBuffers run v) ≡ played (seen run) (lends (min n 10))
-unfolding played
 lends-new run v n e =
     let a = equal-bytes (16 * v) 160 0xee (omega arith) ∙ ap (λ (k : ℕ). fresh (16 * k)) e in
     let b = equal-bytes (8 * ((v + 63) / 64)) 8 0xee (omega arith) ∙ ap (λ (k : ℕ). fresh (8 * ((k + 63) / 64))) e in
-    λ i. record { world = worldOf (run .card) (a i) (b i); good = run .good }
+    let q : Played = record { world = worldOf (run .card) (fresh (16 * min n 10)) (fresh (8 * ((min n 10 + 63) / 64))); good = run .good } in
+    let f : seen (withBuffers run v) ≡ q = λ i. record { world = worldOf (run .card) (a i) (b i); good = run .good } in
+    f ∙ sym (played-lends (seen run) (min n 10))
 
 -- ---- rows
 

@@ -1,9 +1,9 @@
 -- What a configuration write does to a sound card. Assumes nothing.
-use mathlib.Core.Path.{_≡_, sym, ap, _∙_}
+use mathlib.Core.Path.{_≡_, refl, sym, ap, _∙_}
 use mathlib.Core.Bool.{false}
 use mathlib.Core.List.{List}
 use Prim.Native.Nat.{ℕ, _+_, _≤_}
-use Rattle.words.specs.Bytes.{byte, bytesOf}
+use Rattle.words.specs.Bytes.{bytesOf}
 use Rattle.model.specs.declared.Card.{Card}
 use Rattle.model.specs.declared.Function.{Function}
 use Rattle.model.specs.declared.Mode.{Mode}
@@ -15,7 +15,7 @@ use Rattle.model.specs.Vectors.{modeOf}
 use Rattle.model.specs.Release.{pinNumber}
 use Rattle.model.specs.Sound.{shape}
 use Rattle.model.specs.Calls.{configWrite, badConfig, settleOf, performed}
-use Rattle.model.proofs.Calls.Effects.{ready-config, pin-written}
+use Rattle.model.proofs.Calls.Effects.{ready-config, pin-config, pin-written}
 use Rattle.model.proofs.Calls.AccessCalls.{config-writes, config-passed}
 use Rattle.model.proofs.Calls.SettleCalls.{config-settles}
 use Rattle.registers.proofs.AccessLaws.{config-access}
@@ -40,7 +40,6 @@ module _ (card : Card) (t p : List ℕ) (k : Profile) (r : Running card t p k) (
 
     pub write-unsettled : (w : Wiring) → Wires card k w → (m : Mode) → ((t : List ℕ) → m ≡ modeOf (k .shape) (regs (f .config) t))
         → Unsettled card f t p w (record { shape = k .shape; form = k .form; mode = m })
-    unfolding pinNumber
     write-unsettled w wires m em = record {
       ready = rw (changed, r .shaped) (ready-config u (running-endpoint r) o (bytesOf n x));
       profiled = record { fits = running-fit r .shape; form = r .profiled .form; mode = λ t. sym (em t) };
@@ -51,7 +50,8 @@ module _ (card : Card) (t p : List ℕ) (k : Profile) (r : Running card t p k) (
       where
         pin-now : (t : List ℕ) → pinNumber (regs (card .function .config) t) ≡ pinNumber (regs (f .config) t)
         pin-now t =
-            sym (pin-written u (running-endpoint r) o (bytesOf n x)) ∙ ap (λ (v : Endpoint). byte (v .function .config) 0x3d) (sym changed)
+            pin-config (regs (card .function .config) t) (registers u) refl ∙ sym (pin-written u (running-endpoint r) o (bytesOf n x))
+            ∙ pin-config (configWritten (shape u) (registers u) o (bytesOf n x)) (regs (f .config) t) (ap (λ (v : Endpoint). v .function .config) (sym changed))
 
     pub write-settles : (out : List ℕ) → settleOf (worldOf card t p) (k .shape) (endpointOf f t p) out ≡ performed (worldOf card t p) (configWrite o n x out)
     write-settles out =

@@ -4,6 +4,7 @@ pub mod HistoryBits
 pub mod RestoreResumes
 pub mod Refusals
 pub mod BytesBound
+pub mod BytesReached
 pub mod ImageExact
 pub mod SoundKept
 pub mod Starred

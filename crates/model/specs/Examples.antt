@@ -8,3 +8,4 @@ pub mod Refusals
 pub mod Images
 pub mod Restores
 pub mod Numbers
+pub mod Longest

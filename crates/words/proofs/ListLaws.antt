@@ -7,8 +7,8 @@ use native.Mathlib.Nat.{zero-add, mul-suc}
 use native.Mathlib.Numerals.{add-one}
 use native.Mathlib.Omega.{arith}
 use lib.Dec.{ltb, leb, eqb}
-use lib.ListN.{length, drop, getD, length-append, drop-of-length-le}
-use lib.Seq.{drop-cons}
+use lib.ListN.{length, drop, getD, length-append, drop-of-length-le, List·getD-append}
+use lib.Seq.{drop-cons, getD-append-add}
 use borrow.Author.Tests.{eq-eqb, ne-eqb, eqb-true, eqb-false, lt-ltb, le-ltb, le-leb, ltb-true, ltb-false, leb-true}
 use Rattle.words.specs.Lists.{count, keep, all, member, join, eachAt, allAt, same, within}
 use Rattle.words.specs.Bytes.{byte}
@@ -197,6 +197,14 @@ keep-none f (x ∷ l) h =
     let r : keep f l ≡ [] = keep-none f l (holds-tail (λ a. f a ≡ false) x l h) in
     rw (e, r)
 
+pub keep-all : (f : ℕ → Bool) (l : List ℕ) → Holds (λ a. f a ≡ true) l → keep f l ≡ l
+unfolding keep
+keep-all f [] h = refl
+keep-all f (x ∷ l) h =
+    let e : f x ≡ true = holds-head (λ a. f a ≡ true) x l h in
+    let r : keep f l ≡ l = keep-all f l (holds-tail (λ a. f a ≡ true) x l h) in
+    rw (e, r)
+
 -- nothing kept: none passes
 pub keep-nil : (f : ℕ → Bool) (l : List ℕ) → keep f l ≡ [] → Holds (λ a. f a ≡ false) l
 keep-nil f l e x m = go (f x) refl
@@ -259,10 +267,29 @@ unfolding join
 join-none f l e = ap (join f) e
 
 -- each part has k elements
-pub join-each : (f : ℕ → List ℕ) (k : ℕ) (l : List ℕ) → ((x : ℕ) → length (f x) ≡ k) → length (join f l) ≡ k * length l
+pub join-parts : (f : ℕ → List ℕ) (k : ℕ) (l : List ℕ) → Holds (λ x. length (f x) ≡ k) l → length (join f l) ≡ k * length l
 unfolding join
-join-each f k [] h = omega arith
-join-each f k (x ∷ l) h = rw length-append (omega (arith, h x, join-each f k l h, mul-suc k (length l)))
+join-parts f k [] h = omega arith
+join-parts f k (x ∷ l) h =
+    let a : length (f x) ≡ k = holds-head (λ x. length (f x) ≡ k) x l h in
+    let b : length (join f l) ≡ k * length l = join-parts f k l (holds-tail (λ x. length (f x) ≡ k) x l h) in
+    rw length-append (omega (arith, mul-suc k (length l)))
+
+pub join-each : (f : ℕ → List ℕ) (k : ℕ) (l : List ℕ) → ((x : ℕ) → length (f x) ≡ k) → length (join f l) ≡ k * length l
+join-each f k l h = join-parts f k l (λ x _. h x)
+
+-- so byte j of part v stands behind v parts
+pub join-byte : (f : ℕ → List ℕ) (k : ℕ) → ((x : ℕ) → length (f x) ≡ k) → (i n v j : ℕ) → v < n → j < k → byte (join f (count i n)) (k * v + j) ≡ byte (f (i + v)) j
+unfolding join count
+join-byte f k e i zero v j h l = absurd (omega arith)
+join-byte f k e i (suc n) zero j h l =
+    let z : k * 0 + j ≡ j = omega arith in
+    let a : i + 0 ≡ i = omega arith in
+    rw (z, a) (List·getD-append (f i) (join f (count (suc i) n)) 0 j (omega (arith, e i)))
+join-byte f k e i (suc n) (suc v) j h l =
+    let z : k * suc v + j ≡ length (f i) + (k * v + j) = omega (arith, e i, mul-suc k v) in
+    let a : i + suc v ≡ suc i + v = omega arith in
+    rw (z, a) (getD-append-add (f i) (join f (count (suc i) n)) (k * v + j) 0 ∙ join-byte f k e (suc i) n v j (omega arith) l)
 
 -- each part has at most k elements
 pub join-length : (f : ℕ → List ℕ) (k : ℕ) (l : List ℕ) → ((x : ℕ) → length (f x) ≤ k) → length (join f l) ≤ k * length l

@@ -1,6 +1,6 @@
 -- The answers of accepted calls, and the numbers of each answer. Assumes nothing.
 use mathlib.Core.Path.{_≡_, refl, sym, ap₂, _∙_}
-use mathlib.Core.Bool.{Bool, true, false, true≢false, false≢true}
+use mathlib.Core.Bool.{Bool, true, false, true≢false, false≢true, _&&_}
 use Prim.Native.Nat.{ℕ, zero, suc}
 use lib.Dec.{eqb}
 use borrow.Author.Tests.{eqb-true}
@@ -140,7 +140,11 @@ pub refused-code : (a : Answer) → isAccepted a ≡ false → eventCode a ≡ 0
 unfolding eventCode
 refused-code a e = accepted-elim (λ x. eventCode x ≡ 0) a (λ _. refl) (λ t. absurd (true≢false (sym t ∙ e)))
 
--- ---- two answers that are the same are equal
+-- ---- two answers are the same by kind and detail, and then they are equal
+
+pub same-answer : (a b : Answer) → sameAnswer a b ≡ (eqb (kindOf a) (kindOf b) && eqb (detailOf a) (detailOf b))
+unfolding sameAnswer
+same-answer a b = refl
 
 -- the answer of a kind with a detail
 ofKind : ℕ → ℕ → Answer

@@ -7,10 +7,10 @@ use Prim.Native.Nat.{ℕ, _-_, _<_}
 use lib.ListN.{length}
 use borrow.Author.Tests.{leb-false}
 use Rattle.words.specs.Lists.{firstOf}
-use Rattle.words.specs.Bytes.{bytesOf}
+use Rattle.words.specs.Bytes.{byte, bytesOf}
 use Rattle.words.proofs.BoolLaws.{passed, cond-elim}
 use Rattle.model.specs.Registers.{writable, storedZero, entryWritable, entryZero, written, inTable, configWritten, barWritten}
-use Rattle.model.specs.World.{World, Endpoint, registers, withRegisters, withLine}
+use Rattle.model.specs.World.{World, Endpoint, registers, withRegisters, withLine, Registers}
 use Rattle.model.specs.Release.{pinNumber, raisedBy, settled, settleBytes, wireChange}
 use Rattle.model.specs.Start.{given, startRefusal}
 use Rattle.model.specs.Sound.{givenOf, shape}
@@ -24,6 +24,11 @@ use Rattle.model.proofs.Registers.ZeroLaws.{disjoint, disjoint-entry, z
 use Rattle.model.proofs.Sound.SoundLaws.{Accepts, accepts, SoundEndpoint, is-sound}
 use Rattle.model.proofs.Vectors.SettleLaws.{below-same, ready}
 use Rattle.model.proofs.Calls.CallLaws.{Passed}
+
+-- the pin number is in the configuration
+pub pin-config : (r q : Registers) → r .config ≡ q .config → pinNumber r ≡ pinNumber q
+unfolding pinNumber
+pin-config r q e = ap (λ (c : List ℕ). byte c 0x3d) e
 
 -- ---- each change leaves the function ready to be swept, with its shape
 

@@ -2,7 +2,7 @@
 use mathlib.Core.Path.{_≡_, refl, sym, ap, _∙_}
 use mathlib.Core.Bool.{Bool, true, _&&_}
 use mathlib.Core.List.{List, [], _∷_, _++_, map}
-use Prim.Native.Nat.{ℕ, zero, suc, _+_, _≤_, _<_}
+use Prim.Native.Nat.{ℕ, zero, suc, _+_, _*_, _/_, _≤_, _<_}
 use native.Mathlib.Omega.{arith}
 use lib.Dec.{eqb}
 use lib.ListN.{length}
@@ -12,9 +12,10 @@ use Rattle.words.specs.Writers.{over}
 use Rattle.words.proofs.BoolLaws.{both, and-intro, by-test, of-T}
 use Rattle.words.proofs.ListLaws.{same-true}
 use Rattle.model.specs.declared.Answer.{Answer}
-use Rattle.model.specs.Calls.{Outcome}
+use Rattle.model.specs.Calls.{Operation, Outcome, operate}
+use Rattle.model.specs.World.{worldOf, cardOf}
 use Rattle.model.specs.Answers.{sameAnswer}
-use Rattle.model.specs.Play.{Step, Played, right, played, playedAll, passes, allPass}
+use Rattle.model.specs.Play.{Step, lends, does, Played, fresh, right, lentOutput, unplayed, played, playedAll, passes, allPass}
 use Rattle.model.specs.Cases.{starredCases, limitCases, benchCases}
 use Rattle.model.proofs.Calls.AnswerLaws.{same-equal}
 use Rattle.model.proofs.Starred.{starred, limits}
@@ -44,6 +45,19 @@ right-anywhere r s answer bytes out a n o = rw (a, n, o)
 
 -- ---- steps one after another
 
+pub played-does : (p : Played) (o : Operation) (bytes : List ℕ) (answer : Answer)
+    → played p (does o bytes answer)
+    ≡ (record { world = operate (p .world) o .world; good = p .good && right (operate (p .world) o) answer bytes (lentOutput o) })
+unfolding played
+played-does p o bytes answer = refl
+
+-- the card keeps its function and its wire
+pub played-lends : (p : Played) (n : ℕ)
+    → played p (lends n)
+    ≡ (record { world = worldOf (cardOf (p .world)) (fresh (16 * n)) (fresh (8 * ((n + 63) / 64))); good = p .good })
+unfolding played
+played-lends p n = refl
+
 pub played-none : (p : Played) → p ≡ playedAll p []
 unfolding playedAll
 played-none p = refl
@@ -58,6 +72,10 @@ played-both p [] m = refl
 played-both p (x ∷ l) m = played-both (played p x) l m
 
 -- ---- cases
+
+pub passes-played : (steps : List Step) → playedAll unplayed steps .good ≡ passes steps
+unfolding passes
+passes-played steps = refl
 
 all-append : (l m : List (List Step)) → allPass l ≡ true → allPass m ≡ true → allPass (l ++ m) ≡ true
 unfolding allPass

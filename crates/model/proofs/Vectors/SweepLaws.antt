@@ -75,6 +75,11 @@ enabled-counted Msi s r v e h =
     rw (msi-present s r e) (omega arith)
 enabled-counted Msix s r v e h = ltb-true v (s .msix .vectors) (both (ltb v (s .msix .vectors)) (not (msixControlBit s r 14)) h .0)
 
+-- while another mechanism is in force a vector is shut
+pub other-shut : (m : Mode) (s : Shape) (r : Registers) (v : ℕ) → sameMode m (modeOf s r) ≡ false → isOpen m s r v ≡ false
+unfolding isOpen inForce
+other-shut m s r v h = rw h
+
 pub open-counted : (m : Mode) (s : Shape) (r : Registers) (v : ℕ) → isOpen m s r v ≡ true → v < vectorCount m s
 open-counted m s r v h = let o = open-parts m s r v h in enabled-counted m s r v (o .force) (o .enable)
 

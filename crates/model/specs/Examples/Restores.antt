@@ -6,17 +6,21 @@ use Rattle.model.specs.Image.{restoreRefusal}
 use Rattle.model.specs.Cases.{capability, msixCard}
 
 -- the image of a started card: MSI-X of one vector at 40h, 32-bit MSI of two with masks at 50h, pin 1
-abbrev pub good : List ℕ
-good =
+abbrev pub goodImage : List ℕ
+goodImage =
     0x49 ∷ 0x52 ∷ 0x51 ∷ 1 ∷ 0 ∷ 0 ∷ 1 ∷ 0 ∷ 0 ∷ 1 ∷ 0 ∷ 0 ∷ 0 ∷ 0 ∷ 0x00 ∷ 0x20 ∷ 0x00 ∷ 0x00
     ∷ replicate 20 0 ++ capability 0x50 0x05 0 0x0102 (msixCard 0x50 1 0 0x1000) ++ replicate 12 0 ++ (1 ∷ replicate 11 0)
+
+-- the image of a started card without a list: E = 1, no pin
+abbrev pub bare : List ℕ
+bare = 0x49 ∷ 0x52 ∷ 0x51 ∷ 1 ∷ 0 ∷ 0 ∷ 1 ∷ 0 ∷ 0 ∷ 1 ∷ replicate 284 0
 
 -- the refusal over buffers of its lengths, and with a byte of it changed
 abbrev pub restoring : List ℕ → ℕ
 restoring image = restoreRefusal image 16 8
 
-abbrev pub with : (at b : ℕ) → ℕ
-with at b = restoring (set good at b)
+abbrev pub withByte : (at b : ℕ) → ℕ
+withByte at b = restoring (set goodImage at b)
 
 -- a byte of its configuration, which starts at byte 38, of its table and of its pending array
 abbrev pub config : (i b : ℕ) → List ℕ → List ℕ
@@ -32,28 +36,28 @@ pending i b image = set image (310 + i) b
 
 abbrev pub orders : List (ℕ × ℕ)
 orders =
-    (0, restoring good)
+    (0, restoring goodImage)
     ∷ (20, restoring [])
-    ∷ (20, restoring (take 293 good))
-    ∷ (22, restoring (take 294 good))
-    ∷ (20, with 0 0x48)
-    ∷ (20, with 1 0x53)
-    ∷ (20, with 2 0x50)
-    ∷ (21, with 3 0)
-    ∷ (21, with 3 2)
-    ∷ (21, with 4 1)
-    ∷ (20, restoring (set (set good 3 2) 0 0x48))
-    ∷ (21, restoring (set (set good 3 2) 5 4))
-    ∷ (22, restoreRefusal (set good 5 4) 0 0)
-    ∷ (17, restoreRefusal good 0 8)
-    ∷ (17, restoreRefusal good 15 8)
-    ∷ (17, restoreRefusal good 17 8)
-    ∷ (17, restoreRefusal good 16 7)
-    ∷ (17, restoreRefusal good 16 9)
-    ∷ (17, restoreRefusal good 16 16)
+    ∷ (20, restoring (take 293 goodImage))
+    ∷ (22, restoring (take 294 goodImage))
+    ∷ (20, withByte 0 0x48)
+    ∷ (20, withByte 1 0x53)
+    ∷ (20, withByte 2 0x50)
+    ∷ (21, withByte 3 0)
+    ∷ (21, withByte 3 2)
+    ∷ (21, withByte 4 1)
+    ∷ (20, restoring (set (set goodImage 3 2) 0 0x48))
+    ∷ (21, restoring (set (set goodImage 3 2) 5 4))
+    ∷ (22, restoreRefusal (set goodImage 5 4) 0 0)
+    ∷ (17, restoreRefusal goodImage 0 8)
+    ∷ (17, restoreRefusal goodImage 15 8)
+    ∷ (17, restoreRefusal goodImage 17 8)
+    ∷ (17, restoreRefusal goodImage 16 7)
+    ∷ (17, restoreRefusal goodImage 16 9)
+    ∷ (17, restoreRefusal goodImage 16 16)
     -- lengths: 294 + 16N + 8 x (N/64 rounded up)
-    ∷ (22, restoring (take 317 good))
-    ∷ (22, restoring (good ++ (0 ∷ [])))
+    ∷ (22, restoring (take 317 goodImage))
+    ∷ (22, restoring (goodImage ++ (0 ∷ [])))
     ∷ []
 
 -- ---- 22, field by field
@@ -61,71 +65,74 @@ orders =
 abbrev pub damaged : List (ℕ × ℕ)
 damaged =
     -- flags: the line with the wire inactive; the wire without the line; each bit behind them
-    (22, with 5 0x01)
-    ∷ (22, with 5 0x02)
-    ∷ (0, with 5 0x03)
-    ∷ (22, with 5 0x04)
-    ∷ (22, with 5 0x83)
+    (22, withByte 5 0x01)
+    ∷ (22, withByte 5 0x02)
+    ∷ (0, withByte 5 0x03)
+    ∷ (22, withByte 5 0x04)
+    ∷ (22, withByte 5 0x83)
     -- E and the requester ID
-    ∷ (22, with 6 0)
-    ∷ (22, with 6 2)
-    ∷ (22, with 7 1)
-    ∷ (22, with 8 0x01)
-    ∷ (22, with 8 0x04)
-    ∷ (0, with 8 0x08)
-    ∷ (0, with 9 0xff)
+    ∷ (22, withByte 6 0)
+    ∷ (22, withByte 6 2)
+    ∷ (22, withByte 7 1)
+    ∷ (22, withByte 8 0x01)
+    ∷ (22, withByte 8 0x04)
+    ∷ (0, withByte 8 0x08)
+    ∷ (0, withByte 9 0xff)
     -- MSI waiting bits: two of them, and the others
-    ∷ (0, with 10 0x03)
-    ∷ (22, with 10 0x04)
-    ∷ (22, with 11 0x01)
-    ∷ (22, with 13 0x80)
+    ∷ (0, withByte 10 0x03)
+    ∷ (22, withByte 10 0x04)
+    ∷ (22, withByte 11 0x01)
+    ∷ (22, withByte 13 0x80)
+    -- none where there is no MSI
+    ∷ (0, restoreRefusal bare 0 0)
+    ∷ (22, restoreRefusal (set bare 10 0x01) 0 0)
     -- the size of BAR 0, which has table and pending array; another size
-    ∷ (22, with 15 0x10)
-    ∷ (0, with 15 0x30)
-    ∷ (0, with 18 0xff)
-    ∷ (0, with 37 0xff)
-    -- configuration: what a start refuses with 10 to 14
-    ∷ (22, restoring (config 0x0e 0x01 good))
-    ∷ (22, restoring (config 0x3d 0x05 good))
-    ∷ (22, restoring (config 0x34 0x3c good))
-    ∷ (22, restoring (config 0x50 0x11 good))
-    ∷ (22, restoring (config 0x52 0x0c good))
-    ∷ (22, restoring (config 0x44 0x06 good))
+    ∷ (22, withByte 15 0x10)
+    ∷ (0, withByte 15 0x30)
+    ∷ (0, withByte 18 0xff)
+    ∷ (0, withByte 37 0xff)
+    -- configuration: what a start refuses withByte 10 to 14
+    ∷ (22, restoring (config 0x0e 0x01 goodImage))
+    ∷ (22, restoring (config 0x3d 0x05 goodImage))
+    ∷ (22, restoring (config 0x34 0x3c goodImage))
+    ∷ (22, restoring (config 0x50 0x11 goodImage))
+    ∷ (22, restoring (config 0x52 0x0c goodImage))
+    ∷ (22, restoring (config 0x44 0x06 goodImage))
     -- stored as 0: Status bit 3, address bits 1:0, masks at or above 2^Capable, the Pending register
-    ∷ (22, restoring (config 0x06 0x18 good))
-    ∷ (0, restoring (config 0x06 0xf0 good))
-    ∷ (22, restoring (config 0x54 0x01 good))
-    ∷ (22, restoring (config 0x54 0x02 good))
-    ∷ (0, restoring (config 0x54 0xfc good))
-    ∷ (0, restoring (config 0x5c 0x03 good))
-    ∷ (22, restoring (config 0x5c 0x04 good))
-    ∷ (22, restoring (config 0x5f 0x80 good))
-    ∷ (22, restoring (config 0x60 0x01 good))
-    ∷ (22, restoring (config 0x63 0x80 good))
-    ∷ (0, restoring (config 0x64 0xff good))
+    ∷ (22, restoring (config 0x06 0x18 goodImage))
+    ∷ (0, restoring (config 0x06 0xf0 goodImage))
+    ∷ (22, restoring (config 0x54 0x01 goodImage))
+    ∷ (22, restoring (config 0x54 0x02 goodImage))
+    ∷ (0, restoring (config 0x54 0xfc goodImage))
+    ∷ (0, restoring (config 0x5c 0x03 goodImage))
+    ∷ (22, restoring (config 0x5c 0x04 goodImage))
+    ∷ (22, restoring (config 0x5f 0x80 goodImage))
+    ∷ (22, restoring (config 0x60 0x01 goodImage))
+    ∷ (22, restoring (config 0x63 0x80 goodImage))
+    ∷ (0, restoring (config 0x64 0xff goodImage))
     -- table: address bits 1:0, control bits 31:1
-    ∷ (22, restoring (table 0 0x01 good))
-    ∷ (22, restoring (table 0 0x02 good))
-    ∷ (0, restoring (table 0 0xfc good))
-    ∷ (0, restoring (table 11 0xff good))
-    ∷ (0, restoring (table 12 0x00 good))
-    ∷ (22, restoring (table 12 0x02 good))
-    ∷ (22, restoring (table 12 0x81 good))
-    ∷ (22, restoring (table 13 0x01 good))
-    ∷ (22, restoring (table 15 0x80 good))
+    ∷ (22, restoring (table 0 0x01 goodImage))
+    ∷ (22, restoring (table 0 0x02 goodImage))
+    ∷ (0, restoring (table 0 0xfc goodImage))
+    ∷ (0, restoring (table 11 0xff goodImage))
+    ∷ (0, restoring (table 12 0x00 goodImage))
+    ∷ (22, restoring (table 12 0x02 goodImage))
+    ∷ (22, restoring (table 12 0x81 goodImage))
+    ∷ (22, restoring (table 13 0x01 goodImage))
+    ∷ (22, restoring (table 15 0x80 goodImage))
     -- pending array: a bit at N and above
-    ∷ (0, restoring (pending 0 0x01 good))
-    ∷ (22, restoring (pending 0 0x02 good))
-    ∷ (22, restoring (pending 7 0x80 good))
+    ∷ (0, restoring (pending 0 0x01 goodImage))
+    ∷ (22, restoring (pending 0 0x02 goodImage))
+    ∷ (22, restoring (pending 7 0x80 goodImage))
     ∷ []
 
 -- ---- 22: an open vector waits, and each bit that shuts it
 
 abbrev pub waiting : (command control mask : ℕ) → ℕ
-waiting command control mask = restoring (config 0x04 command (config 0x43 control (table 12 mask (pending 0 0x01 good))))
+waiting command control mask = restoring (config 0x04 command (config 0x43 control (table 12 mask (pending 0 0x01 goodImage))))
 
 abbrev pub msiWaiting : (command control mask : ℕ) → ℕ
-msiWaiting command control mask = restoring (config 0x04 command (config 0x52 control (config 0x5c mask (set good 10 0x02))))
+msiWaiting command control mask = restoring (config 0x04 command (config 0x52 control (config 0x5c mask (set goodImage 10 0x02))))
 
 abbrev pub openVectors : List (ℕ × ℕ)
 openVectors =

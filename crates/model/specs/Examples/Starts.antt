@@ -50,8 +50,8 @@ chain (suc zero) at last c = capability at 0x09 last 0 c
 chain (suc (suc n)) at last c = chain (suc n) (at + 4) last (capability at 0x09 (at + 4) 0 c)
 
 -- MSI at a place, whose Capable is 6: it is refused with 13 if the list has it
-abbrev pub six : (at next : ℕ) → List ℕ → List ℕ
-six at next c = capability at 0x05 next 0x000c c
+abbrev pub tooCapable : (at next : ℕ) → List ℕ → List ℕ
+tooCapable at next c = capability at 0x05 next 0x000c c
 
 abbrev pub pointers : List (ℕ × ℕ)
 pointers =
@@ -65,29 +65,29 @@ pointers =
     ∷ (11, plain (listFrom 0x3f))
     ∷ (0, plain (listFrom 0x40))
     ∷ (0, plain (listFrom 0xff))
-    ∷ (13, plain (six 0x40 0 (listFrom 0x40)))
-    ∷ (13, plain (six 0x40 0 (listFrom 0x43)))
-    ∷ (13, plain (six 0x44 0 (listFrom 0x44)))
-    ∷ (13, plain (six 0x44 0 (listFrom 0x47)))
-    ∷ (0, plain (six 0x44 0 (listFrom 0x48)))
+    ∷ (13, plain (tooCapable 0x40 0 (listFrom 0x40)))
+    ∷ (13, plain (tooCapable 0x40 0 (listFrom 0x43)))
+    ∷ (13, plain (tooCapable 0x44 0 (listFrom 0x44)))
+    ∷ (13, plain (tooCapable 0x44 0 (listFrom 0x47)))
+    ∷ (0, plain (tooCapable 0x44 0 (listFrom 0x48)))
     -- byte 34h, not one beside it
     ∷ (0, plain (set (set (listFrom 0) 0x33 0x3c) 0x35 0x3c))
     -- the next pointer, the second byte of a capability
     ∷ (0, plain (capability 0x40 0x09 0x03 0x3c3c (listFrom 0x40)))
     ∷ (11, plain (capability 0x40 0x09 0x04 0 (listFrom 0x40)))
     ∷ (11, plain (capability 0x40 0x09 0x3f 0 (listFrom 0x40)))
-    ∷ (13, plain (six 0x80 0 (capability 0x40 0x09 0x83 0 (listFrom 0x40))))
-    ∷ (13, plain (six 0x44 0 (capability 0x40 0x09 0x44 0 (listFrom 0x40))))
+    ∷ (13, plain (tooCapable 0x80 0 (capability 0x40 0x09 0x83 0 (listFrom 0x40))))
+    ∷ (13, plain (tooCapable 0x44 0 (capability 0x40 0x09 0x44 0 (listFrom 0x40))))
     -- 48 capabilities, and a 49th
     ∷ (0, plain (chain 48 0x40 0 (listFrom 0x40)))
     ∷ (11, plain (chain 48 0x40 0x40 (listFrom 0x40)))
-    ∷ (13, plain (chain 47 0x44 0x40 (six 0x40 0 (listFrom 0x44))))
+    ∷ (13, plain (chain 47 0x44 0x40 (tooCapable 0x40 0 (listFrom 0x44))))
     ∷ []
 
 -- ---- 12: ID 05h or 11h listed twice
 
-abbrev pub twins : List (ℕ × ℕ)
-twins =
+abbrev pub listedTwice : List (ℕ × ℕ)
+listedTwice =
     (12, plain (capability 0x60 0x05 0 0 (capability 0x40 0x05 0x60 0 (listFrom 0x40))))
     ∷ (12, plain (capability 0x60 0x11 0 0 (capability 0x40 0x11 0x60 0 (listFrom 0x40))))
     ∷ (0, plain (capability 0x60 0x09 0 0 (capability 0x40 0x09 0x60 0 (listFrom 0x40))))
@@ -98,7 +98,7 @@ twins =
     ∷ (14, plain (capability 0x40 0x11 0 0 (listFrom 0x40)))
     ∷ (0, plain (capability 0x40 0x12 0 0 (listFrom 0x40)))
     -- before 13
-    ∷ (12, plain (six 0x60 0 (six 0x40 0x60 (listFrom 0x40))))
+    ∷ (12, plain (tooCapable 0x60 0 (tooCapable 0x40 0x60 (listFrom 0x40))))
     ∷ []
 
 -- ---- 13: Capable above 5; past byte FFh, over the other structure, another listed header inside
@@ -111,8 +111,8 @@ abbrev pub msiAt : (at control : ℕ) → ℕ
 msiAt at control = plain (capability at 0x05 0 control (listFrom at))
 
 -- MSI-X for one vector at a place, table and pending array in BAR 0, and MSI beside it or, with ID 09h, another one
-abbrev pub pair : (at id beside control : ℕ) → ℕ
-pair at id beside control =
+abbrev pub besideMsix : (at id beside control : ℕ) → ℕ
+besideMsix at id beside control =
     startRefusal (given (capability beside id at control (msix at 0 0 0 0x10 (listFrom beside))) (sizesOf 0x18 0) 1 0x100 16 8)
 
 abbrev pub structures : List (ℕ × ℕ)
@@ -143,16 +143,16 @@ structures =
     -- a header before the structure
     ∷ (0, plain (capability 0x44 0x05 0 0 (capability 0x40 0x09 0x44 0 (listFrom 0x40))))
     -- 12 bytes of MSI-X: up to byte FFh, a header behind, MSI behind, MSI before
-    ∷ (0, pair 0xf4 0x09 0x40 0)
-    ∷ (13, pair 0xf8 0x09 0x40 0)
-    ∷ (13, pair 0x40 0x09 0x48 0)
-    ∷ (0, pair 0x40 0x09 0x4c 0)
-    ∷ (13, pair 0x40 0x05 0x48 0)
-    ∷ (0, pair 0x40 0x05 0x4c 0)
-    ∷ (13, pair 0x54 0x05 0x40 0x0180)
-    ∷ (0, pair 0x58 0x05 0x40 0x0180)
+    ∷ (0, besideMsix 0xf4 0x09 0x40 0)
+    ∷ (13, besideMsix 0xf8 0x09 0x40 0)
+    ∷ (13, besideMsix 0x40 0x09 0x48 0)
+    ∷ (0, besideMsix 0x40 0x09 0x4c 0)
+    ∷ (13, besideMsix 0x40 0x05 0x48 0)
+    ∷ (0, besideMsix 0x40 0x05 0x4c 0)
+    ∷ (13, besideMsix 0x54 0x05 0x40 0x0180)
+    ∷ (0, besideMsix 0x58 0x05 0x40 0x0180)
     -- before 14
-    ∷ (13, plain (six 0x60 0 (msix 0x40 0x60 0 6 6 (listFrom 0x40))))
+    ∷ (13, plain (tooCapable 0x60 0 (msix 0x40 0x60 0 6 6 (listFrom 0x40))))
     ∷ []
 
 -- ---- 14: a BIR above 5; past the BAR's size; the two overlapping in one BAR
@@ -249,4 +249,4 @@ counts =
     ∷ []
 
 abbrev pub starts : List (ℕ × ℕ)
-starts = headers ++ pointers ++ twins ++ structures ++ regions ++ counts
+starts = headers ++ pointers ++ listedTwice ++ structures ++ regions ++ counts

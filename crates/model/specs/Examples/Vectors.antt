@@ -1,11 +1,13 @@
 -- Document 01, "Who is open": each bit that opens and shuts a vector, what an event means, and what is sent when. Assumes nothing.
+use mathlib.Core.Bool.{true}
 use mathlib.Core.List.{List, [], _∷_, _++_}
 use Prim.Native.Nat.{ℕ, _+_}
+use lib.ListN.{set}
 use Rattle.model.specs.declared.Answer.the-variants.{Sent, Held, Merged, Lost}
 use Rattle.model.specs.Play.{Step}
 use Rattle.model.specs.Cases.{sizesOf, startCase, writes, readsConfig, readsBar, raises, stores, command, control, entry, unmask, msixCase, oneVector}
-use Rattle.model.specs.Cases.{message32, message64, bothCard}
-use Rattle.model.specs.Examples.Parts.{formCase}
+use Rattle.model.specs.Cases.{drives, wirePacket, message32, message64, bothCard}
+use Rattle.model.specs.Examples.Parts.{ones, formCase}
 
 -- MSI at 40h, 32-bit, with address FEE00000h and data 49A0h, for E = 32
 abbrev pub msiOn : (form : ℕ) → List Step → List Step
@@ -22,6 +24,10 @@ abbrev pub msiEnable : List Step
 msiEnable =
     msiOn 0x000a
     (command 0x0004 ∷ control 0xfffe [] ∷ raises 5 16 Lost [] ∷ control 0x0001 [] ∷ raises 5 16 Sent (message32 0xa0 0x49) ∷ [])
+
+-- neither present: the pin, whatever the other bytes are
+abbrev pub noCapability : List Step
+noCapability = startCase (set (ones 0xff) 0x06 0xef) (sizesOf 0 0) 1 0 (raises 0 0 Lost [] ∷ drives true (wirePacket 0x21) ∷ raises 0 0 Lost [] ∷ [])
 
 -- ---- shut by one bit: Function Mask, the vector's mask, Command bit 2; a vector at or above granted
 
@@ -82,4 +88,4 @@ pendingBits =
 
 abbrev pub vectors : List (List Step)
 vectors =
-    msixEnable ∷ msiEnable ∷ functionMask ∷ entryMask ∷ busMastering ∷ busMasteringMsi ∷ masks ∷ aboveGranted ∷ bothWait ∷ pendingBits ∷ []
+    msixEnable ∷ msiEnable ∷ noCapability ∷ functionMask ∷ entryMask ∷ busMastering ∷ busMasteringMsi ∷ masks ∷ aboveGranted ∷ bothWait ∷ pendingBits ∷ []

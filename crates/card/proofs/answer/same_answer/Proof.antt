@@ -1,13 +1,12 @@
 use borrow.Author.Needs.{needs}
-use Rattle.model.specs.Answers.{sameAnswer}
+use Rattle.model.proofs.Calls.AnswerLaws.{same-answer}
 use Rattle.card.proofs.answer.same_answer.Statement.{statement}
 use Rattle.card.proofs.answer.same_answer.Tie as tie
 
 returns : tie.Need-returns
-unfolding sameAnswer
 returns c =
     let at-second = c .before .before .before .before in
-    rw (at-second .before .code-of .ensures, at-second .code-of2 .ensures)
+    rw (same-answer, at-second .before .code-of .ensures, at-second .code-of2 .ensures)
 
 pub same-answer-spec : {M : Type 1} → statement M
 same-answer-spec =

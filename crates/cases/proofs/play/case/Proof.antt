@@ -5,8 +5,8 @@ use mathlib.Core.List.{List}
 use Prim.Native.Nat.{ℕ, _+_, _-_, _*_, _≤_}
 use native.Mathlib.Omega.{arith}
 use lib.ListN.{take, drop}
-use Rattle.model.specs.Play.{Step, Played, playedAll, unplayed, passes, allPass}
-use Rattle.model.proofs.Calls.PlayLaws.{played-none, played-both, case-passes, bench-pass}
+use Rattle.model.specs.Play.{Step, Played, playedAll, unplayed, allPass}
+use Rattle.model.proofs.Calls.PlayLaws.{played-none, played-both, passes-played, case-passes, bench-pass}
 use Rattle.cases.specs.declared.row.Row.{Row}
 use Rattle.cases.specs.Rows.{rowOf}
 use Rattle.cases.specs.Steps.{rowSteps, caseSteps, rowCount, caseCount}
@@ -47,7 +47,6 @@ loop-again c =
     )
 
 returns : tie.Need-returns Inv-loop μ-loop
-unfolding passes
 returns c =
     let at-loop = c .before in
     let at-bench = at-loop .before .before .before .before in
@@ -57,7 +56,7 @@ returns c =
     let run = at-loop .loop .run in
     let all = played-none (seen run) ∙ ap (λ (l : List Step). playedAll (seen run) l) (no-row n bytes rowCount _ (at-loop .loop .i) (c .loop-test .left)) ∙ at-loop .loop .inv .1 in
     λ low high.
-    ap (λ (p : Played). p .good) all
+    ap (λ (p : Played). p .good) all ∙ passes-played (caseSteps n bytes rowCount rows)
     ∙ case-passes (λ (k : ℕ). caseSteps k bytes rowCount rows) 1 caseCount (ap allPass (at-bench .bench .ensures) ∙ bench-pass) n low (omega arith)
 
 pub case-spec : {M : Type 1} → statement M
