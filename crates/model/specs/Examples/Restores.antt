@@ -1,15 +1,23 @@
 -- Document 01, the restore's checks: an image damaged in each of its fields, each check before the next one. Assumes nothing.
 use mathlib.Core.List.{List, [], _∷_, _++_}
-use Prim.Native.Nat.{ℕ, _+_}
+use Prim.Native.Nat.{ℕ, zero, suc, _+_}
 use lib.ListN.{set, replicate, take}
 use Rattle.model.specs.Image.{restoreRefusal}
 use Rattle.model.specs.Cases.{capability, msixCard}
 
--- the image of a started card: MSI-X of one vector at 40h, 32-bit MSI of two with masks at 50h, pin 1
+-- a table of n entries as it is started
+abbrev pub startedEntries : (n : ℕ) → List ℕ
+startedEntries zero = []
+startedEntries (suc n) = replicate 12 0 ++ (1 ∷ 0 ∷ 0 ∷ 0 ∷ startedEntries n)
+
+-- the image of a started card: MSI-X of n vectors at 40h, 32-bit MSI of two with masks at 50h, pin 1
+abbrev pub imageFor : (n : ℕ) → List ℕ
+imageFor n =
+    0x49 ∷ 0x52 ∷ 0x51 ∷ 1 ∷ 0 ∷ 0 ∷ n ∷ 0 ∷ 0 ∷ 1 ∷ 0 ∷ 0 ∷ 0 ∷ 0 ∷ 0x00 ∷ 0x20 ∷ 0x00 ∷ 0x00
+    ∷ replicate 20 0 ++ capability 0x50 0x05 0 0x0102 (msixCard 0x50 n 0 0x1000) ++ startedEntries n ++ replicate 8 0
+
 abbrev pub goodImage : List ℕ
-goodImage =
-    0x49 ∷ 0x52 ∷ 0x51 ∷ 1 ∷ 0 ∷ 0 ∷ 1 ∷ 0 ∷ 0 ∷ 1 ∷ 0 ∷ 0 ∷ 0 ∷ 0 ∷ 0x00 ∷ 0x20 ∷ 0x00 ∷ 0x00
-    ∷ replicate 20 0 ++ capability 0x50 0x05 0 0x0102 (msixCard 0x50 1 0 0x1000) ++ replicate 12 0 ++ (1 ∷ replicate 11 0)
+goodImage = imageFor 1
 
 -- the image of a started card without a list: E = 1, no pin
 abbrev pub bare : List ℕ
@@ -126,6 +134,32 @@ damaged =
     ∷ (22, restoring (pending 7 0x80 goodImage))
     ∷ []
 
+-- ---- 22, in the second and third entry of three, and in their pending bits
+
+abbrev pub withEntryByte : (i b : ℕ) → ℕ
+withEntryByte i b = restoreRefusal (table i b (imageFor 3)) 48 8
+
+abbrev pub laterEntries : List (ℕ × ℕ)
+laterEntries =
+    (22, withEntryByte 16 0x01)
+    ∷ (0, withEntryByte 16 0xfc)
+    ∷ (0, withEntryByte 27 0xff)
+    ∷ (0, withEntryByte 28 0x00)
+    ∷ (22, withEntryByte 28 0x03)
+    ∷ (22, withEntryByte 29 0x01)
+    ∷ (22, withEntryByte 31 0x80)
+    ∷ (22, withEntryByte 32 0x02)
+    ∷ (0, withEntryByte 32 0xfc)
+    ∷ (0, withEntryByte 43 0xff)
+    ∷ (0, withEntryByte 44 0x00)
+    ∷ (22, withEntryByte 44 0x81)
+    ∷ (22, withEntryByte 45 0x01)
+    ∷ (22, withEntryByte 47 0x80)
+    -- byte 48 is the first of the pending array
+    ∷ (0, withEntryByte 48 0x07)
+    ∷ (22, withEntryByte 48 0x08)
+    ∷ []
+
 -- ---- 22: an open vector waits, and each bit that shuts it
 
 abbrev pub waiting : (command control mask : ℕ) → ℕ
@@ -149,4 +183,4 @@ openVectors =
     ∷ []
 
 abbrev pub restores : List (ℕ × ℕ)
-restores = orders ++ damaged ++ openVectors
+restores = orders ++ damaged ++ laterEntries ++ openVectors
