@@ -17,6 +17,12 @@ high =
     0x60 ∷ 0x00 ∷ 0x00 ∷ 0x01 ∷ 0x12 ∷ 0x38 ∷ 0x00 ∷ 0x0f ∷ 0x9a ∷ 0xbc ∷ 0xde ∷ 0xf0 ∷ 0x12 ∷ 0x34 ∷ 0x56 ∷ 0x78
     ∷ 0x26 ∷ 0x43 ∷ 0x00 ∷ 0x00 ∷ []
 
+-- Enable 1: event 6 means vector 0 of 2
+abbrev pub fewer : List Step
+fewer =
+    control 0x0011 []
+    ∷ raises 6 16 Sent (0x40 ∷ 0x00 ∷ 0x00 ∷ 0x01 ∷ 0x12 ∷ 0x38 ∷ 0x00 ∷ 0x0f ∷ 0x12 ∷ 0x34 ∷ 0x56 ∷ 0x78 ∷ 0x20 ∷ 0x43 ∷ 0x00 ∷ 0x00 ∷ []) ∷ []
+
 -- MSI at 40h on, bus mastering on, address written with bits 1:0 set
 abbrev pub form : (control : ℕ) → List Step → List Step
 form ctl steps =
@@ -32,7 +38,7 @@ abbrev pub form64 : List Step
 form64 =
     form 0x0086
     (writes 0x48 4 0x9abcdef0 [] ∷ writes 0x4c 4 0xdead4321 [] ∷ readsConfig 0x48 4 0x9abcdef0 ∷ readsConfig 0x4c 4 0x4321
-    ∷ raises 6 20 Sent high ∷ writes 0x48 4 0 [] ∷ raises 6 16 Sent low ∷ [])
+    ∷ raises 6 20 Sent high ∷ writes 0x48 4 0 [] ∷ raises 6 16 Sent low ∷ fewer)
 
 -- 32-bit with masks: data at 08h, mask at 0Ch
 abbrev pub form32Masks : List Step
@@ -45,7 +51,7 @@ abbrev pub form64Masks : List Step
 form64Masks =
     form 0x0186
     (writes 0x48 4 0x9abcdef0 [] ∷ writes 0x4c 4 0xdead4321 [] ∷ writes 0x50 4 0xffffffbf [] ∷ readsConfig 0x50 4 0xbf
-    ∷ raises 6 20 Sent high ∷ writes 0x48 4 0 [] ∷ raises 6 16 Sent low ∷ [])
+    ∷ raises 6 20 Sent high ∷ writes 0x48 4 0 [] ∷ raises 6 16 Sent low ∷ writes 0x50 4 0 [] ∷ fewer)
 
 -- ---- granted: 2^(the smaller of Enable and Capable). Events 21 and 10 of 32 over data A5FFh
 

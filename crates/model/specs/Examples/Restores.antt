@@ -78,6 +78,9 @@ damaged =
     ∷ (0, withByte 5 0x03)
     ∷ (22, withByte 5 0x04)
     ∷ (22, withByte 5 0x83)
+    -- where there is no pin, the line alone
+    ∷ (0, restoreRefusal (set bare 5 0x01) 0 0)
+    ∷ (22, restoreRefusal (set bare 5 0x02) 0 0)
     -- E and the requester ID
     ∷ (22, withByte 6 0)
     ∷ (22, withByte 6 2)
