@@ -36,7 +36,7 @@ unfolding
     Release.sweepBytes Release.settleBytes Release.raiseVector Release.raise Release.raisedBy
     Start.badHeader Start.twice Start.misplaced Start.badStructures Start.outside Start.badRegions Start.badEvents Start.badBuffers Start.startRefusal
     Sound.zeroBits Sound.waitsBelow Sound.isEmpty Sound.soundEndpoint Sound.sound
-    Image.mark Image.flags Image.cardBytes Image.imageOf Image.functionFrom Image.worldIn Image.isSaved Image.restoreRefusal
+    Image.mark Image.flags Image.cardBytes Image.imageOf Image.functionFrom Image.cardIn Image.worldIn Image.isSaved Image.restoreRefusal
     Calls.isSave Calls.badConfig Calls.badBar Calls.noMemory Calls.rows Calls.changed Calls.next Calls.sends Calls.answerOf Calls.answered Calls.ifRoom Calls.performed
     Calls.step Calls.startOf Calls.restoreOf
     History.isVector

@@ -13,7 +13,7 @@ use Rattle.model.specs.Examples.Images
 use Rattle.model.specs.Examples.Restores
 use Rattle.model.proofs.Definitions.{definitions}
 
--- answers, the zero card, vectors, lengths of images
+-- answers, a card's bytes, vectors, lengths of images
 pub numbers : T (agree Numbers.numbers)
 unfolding definitions
 numbers = tt

@@ -1,8 +1,7 @@
--- Numbers that no packet and no register shows: of answers, of the zero card, of vectors, of images. Assumes nothing.
-use mathlib.Core.Bool.{Bool}
-use mathlib.Core.List.{List, [], _∷_, _++_, map}
+-- Numbers that no packet and no register shows: of answers, of a card's bytes, of vectors, of images. Assumes nothing.
+use mathlib.Core.List.{List, [], _∷_, _++_}
 use Prim.Native.Nat.{ℕ, _-_, _*_}
-use lib.ListN.{length, replicate}
+use lib.ListN.{length, replicate, drop}
 use Rattle.words.specs.Lists.{same}
 use Rattle.words.specs.Bits.{ofBool}
 use Rattle.model.specs.declared.Mode.{Mode}
@@ -10,14 +9,15 @@ use Rattle.model.specs.declared.Mode.the-variants.{Pin, Msi, Msix}
 use Rattle.model.specs.declared.Answer.{Answer}
 use Rattle.model.specs.declared.Answer.the-variants.{Refused, Done, Value, Sent, Held, Merged, Lost}
 use Rattle.model.specs.Answers.{refusalOf, isAccepted, valueOf, eventCode}
-use Rattle.model.specs.World.{World}
+use Rattle.model.specs.World.{World, worldOf}
 use Rattle.model.specs.Shape.{shapeOf}
 use Rattle.model.specs.Start.{given}
-use Rattle.model.specs.Image.{imageOf, cardBytes}
+use Rattle.model.specs.Image.{imageOf, cardBytes, cardIn}
 use Rattle.model.specs.Calls.{startOf, startedWorld}
 use Rattle.model.specs.History.{isVector}
 use Rattle.model.specs.Play.{unplayed}
 use Rattle.model.specs.Cases.{header, sizesOf, msixCard}
+use Rattle.model.specs.Examples.Images.{fields}
 
 -- ---- answers: the refusal's number, whether it is accepted, the value read, and sent, held, merged, lost as 1, 2, 3, 4
 
@@ -35,6 +35,16 @@ abbrev pub zeroFields : List (ℕ × ℕ)
 zeroFields =
     let card : World = startOf (unplayed .world .endpoint) (given (header 5) (sizesOf 8 8) 1 0x100 0 0) .world in
     (289, length (cardBytes card)) ∷ (1, ofBool (same (cardBytes card) (replicate 289 0))) ∷ []
+
+-- ---- the 289 bytes of a card, from the flags on, read and written back: of the image in which no two fields are alike, with each of its flags
+
+abbrev pub readBack : (flags : ℕ) → ℕ
+readBack flags =
+    let bytes : List ℕ = flags ∷ drop 6 fields in
+    ofBool (same (cardBytes (worldOf (cardIn bytes) [] [])) bytes)
+
+abbrev pub cardFields : List (ℕ × ℕ)
+cardFields = (289, length (drop 5 fields)) ∷ (1, readBack 0) ∷ (1, readBack 1) ∷ (1, readBack 2) ∷ (1, readBack 3) ∷ (0, readBack 4) ∷ []
 
 -- ---- a vector is an MSI-X one below N or an MSI one below 32
 
@@ -57,4 +67,4 @@ imageLengths =
     ∷ (1350, imageLength 65) ∷ (33318, imageLength 2048) ∷ []
 
 abbrev pub numbers : List (ℕ × ℕ)
-numbers = answers ++ zeroFields ++ vectorNumbers ++ imageLengths
+numbers = answers ++ zeroFields ++ cardFields ++ vectorNumbers ++ imageLengths

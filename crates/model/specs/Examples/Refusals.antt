@@ -67,6 +67,12 @@ barAccess =
     ∷ puts 1 0x3c 4 0 ∷ puts 2 0x48 8 0 ∷ refuses 4 (barWrite 1 0x40 4 0 (fresh 64)) ∷ refuses 4 (barWrite 1 0x24 8 0 (fresh 64)) ∷ refuses 4 (barWrite 1 0x20 2 0 (fresh 64))
     ∷ reads 1 0x38 8 0 ∷ [])
 
+-- one vector, at the end of BAR 5
+abbrev pub lastBar : List Step
+lastBar =
+    startCase (msix 0x40 0 0 0x05 0x15 (listFrom 0x40)) (0 ∷ 0 ∷ 0 ∷ 0 ∷ 0 ∷ 0x18 ∷ []) 1 1
+    (command 0x0002 ∷ reads 5 0x0c 4 1 ∷ puts 5 0x0c 4 0 ∷ reads 5 0x08 8 0 ∷ reads 5 0x10 8 0 ∷ refuses 4 (barRead 4 0x0c 4) ∷ [])
+
 -- 4 before 5, 5 before 6: a write that would unmask a waiting vector
 abbrev pub memorySpace : List Step
 memorySpace =
@@ -95,4 +101,4 @@ roomOfTwo =
 
 abbrev pub refusals : List (List Step)
 refusals =
-    otherBuffers ∷ zeroCard ∷ events ∷ eventBeforeRoom ∷ configAccess ∷ configBeforeRoom ∷ barAccess ∷ memorySpace ∷ rooms ∷ roomOfTwo ∷ []
+    otherBuffers ∷ zeroCard ∷ events ∷ eventBeforeRoom ∷ configAccess ∷ configBeforeRoom ∷ barAccess ∷ lastBar ∷ memorySpace ∷ rooms ∷ roomOfTwo ∷ []
