@@ -24,6 +24,10 @@ agree (r ∷ l) = eqb (r .0) (r .1) && agree l
 abbrev pub ones : (p : ℕ) → List ℕ
 ones p = set (set (set (replicate 256 0xff) 0x0e 0x80) 0x34 p) 0x3d 2
 
+-- the same without a list
+abbrev pub onesUnlisted : List ℕ
+onesUnlisted = set (ones 0xff) 0x06 0xef
+
 -- ---- images of cards with requester 0100h
 
 abbrev pub imageBytes : (flags events waiting : ℕ) (sizes config buffers : List ℕ) → List ℕ

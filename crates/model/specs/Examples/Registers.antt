@@ -6,7 +6,7 @@ use lib.ListN.{set, replicate}
 use Rattle.model.specs.declared.Answer.the-variants.{Held}
 use Rattle.model.specs.Play.{Step}
 use Rattle.model.specs.Cases.{put, capability, msix, listFrom, header, sizesOf, startCase, writes, readsConfig, saves, raises, drives, command, control, msixCase, wirePacket}
-use Rattle.model.specs.Examples.Parts.{ones, imageBytes, writesWords, readsWords, reads, puts, formCase}
+use Rattle.model.specs.Examples.Parts.{ones, onesUnlisted, imageBytes, writesWords, readsWords, reads, puts, formCase}
 
 -- ---- the n words from offset o on: as they are started, with all ones written, and with all zeros
 
@@ -24,15 +24,13 @@ startedHeader status c = set (put 0x04 (0xf9 ∷ 0xfb ∷ status ∷ []) c) 0x3c
 
 -- no list: Command bits 1, 2 and 10 and Interrupt Line are writable, Status bit 3 is stored as 0, all else is as given
 abbrev pub headerBits : List Step
-headerBits =
-    let given : List ℕ = set (ones 0xff) 0x06 0xef in
-    everyBit 0 16 given (sizesOf 0 0) 0 (startedHeader 0xe7 given) (set given 0x06 0xe7) []
+headerBits = everyBit 0 16 onesUnlisted (sizesOf 0 0) 0 (startedHeader 0xe7 onesUnlisted) (set onesUnlisted 0x06 0xe7) []
 
 -- and nothing behind the header
 abbrev pub noBits : List Step
 noBits =
-    let given : List ℕ = set (ones 0xff) 0x06 0xef in
-    startCase given (sizesOf 0 0) 1 0 (writesWords 0x40 48 0 ++ (saves 294 (imageBytes 0 1 0 (sizesOf 0 0) (startedHeader 0xe7 given) []) ∷ []))
+    startCase onesUnlisted (sizesOf 0 0) 1 0
+    (writesWords 0x40 48 0 ++ (saves 294 (imageBytes 0 1 0 (sizesOf 0 0) (startedHeader 0xe7 onesUnlisted) []) ∷ []))
 
 -- with a capability at 50h, of 32 bytes there: as given, as started, and with all ones written
 abbrev pub capabilityBits : (given atStart withOnes : List ℕ) → List Step

@@ -2,12 +2,11 @@
 use mathlib.Core.Bool.{true}
 use mathlib.Core.List.{List, [], _∷_, _++_}
 use Prim.Native.Nat.{ℕ, _+_}
-use lib.ListN.{set}
 use Rattle.model.specs.declared.Answer.the-variants.{Sent, Held, Merged, Lost}
 use Rattle.model.specs.Play.{Step}
 use Rattle.model.specs.Cases.{sizesOf, startCase, writes, readsConfig, readsBar, raises, stores, command, control, entry, unmask, msixCase, oneVector}
 use Rattle.model.specs.Cases.{drives, wirePacket, message32, message64, bothCard}
-use Rattle.model.specs.Examples.Parts.{ones, formCase}
+use Rattle.model.specs.Examples.Parts.{onesUnlisted, formCase}
 
 -- MSI at 40h, 32-bit, with address FEE00000h and data 49A0h, for E = 32
 abbrev pub msiOn : (form : ℕ) → List Step → List Step
@@ -27,7 +26,7 @@ msiEnable =
 
 -- neither present: the pin, whatever the other bytes are
 abbrev pub noCapability : List Step
-noCapability = startCase (set (ones 0xff) 0x06 0xef) (sizesOf 0 0) 1 0 (raises 0 0 Lost [] ∷ drives true (wirePacket 0x21) ∷ raises 0 0 Lost [] ∷ [])
+noCapability = startCase onesUnlisted (sizesOf 0 0) 1 0 (raises 0 0 Lost [] ∷ drives true (wirePacket 0x21) ∷ raises 0 0 Lost [] ∷ [])
 
 -- ---- shut by one bit: Function Mask, the vector's mask, Command bit 2; a vector at or above granted
 
@@ -54,7 +53,7 @@ busMasteringMsi =
     (control 0x0051 [] ∷ command 0xfffb ∷ raises 7 16 Held [] ∷ raises 7 16 Merged [] ∷ writes 0x04 2 0x0004 (message32 0xa7 0x49) ∷ raises 7 16 Sent (message32 0xa7 0x49)
     ∷ [])
 
--- vectors 0 and 31 of 32 by their mask bits; the lowest-numbered goes first
+-- vectors 3 and 31 of 32 by their mask bits; the lowest-numbered goes first
 abbrev pub masks : List Step
 masks =
     msiOn 0x010a
