@@ -98,8 +98,8 @@ plays run bytes row r h expected answer good e =
     (ap (λ (z : Calls.Outcome). z .output) (h .outcome))
     ∙ ap (right o answer expected) (h .fresh) in
     let q : Played = record { world = o .world; good = seen run .good && right o answer expected (lentOutput (operationOf bytes row)) } in
-    let e : seen (judged (r .run) good) ≡ q = λ i. record { world = w i; good = h .good i && g i } in
-    e ∙ sym (played-does (seen run) (operationOf bytes row) expected answer)
+    let f : seen (judged (r .run) good) ≡ q = λ i. record { world = w i; good = h .good i && g i } in
+    f ∙ sym (played-does (seen run) (operationOf bytes row) expected answer)
 
 -- ---- buffers
 

@@ -1,7 +1,7 @@
--- Document 01, "Saved images": an image in which no two fields are alike, byte for byte, and restores of damaged ones. Assumes nothing.
+-- Document 01, "Saved images": images byte for byte, saved and restored; in the first no two fields are alike. Assumes nothing.
 use mathlib.Core.Bool.{true, false}
 use mathlib.Core.List.{List, [], _∷_, _++_}
-use Prim.Native.Nat.{ℕ, _+_}
+use Prim.Native.Nat.{ℕ}
 use lib.ListN.{set, replicate, take}
 use Rattle.words.specs.Lists.{count}
 use Rattle.model.specs.declared.Answer.the-variants.{Refused, Done, Held}

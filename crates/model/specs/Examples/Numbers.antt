@@ -1,6 +1,6 @@
 -- Numbers that no packet and no register shows: of answers, of a card's bytes, of vectors, of images. Assumes nothing.
 use mathlib.Core.List.{List, [], _∷_, _++_}
-use Prim.Native.Nat.{ℕ, _-_, _*_}
+use Prim.Native.Nat.{ℕ, _*_}
 use lib.ListN.{length, replicate, drop}
 use Rattle.words.specs.Lists.{same}
 use Rattle.words.specs.Bits.{ofBool}

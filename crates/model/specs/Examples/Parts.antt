@@ -6,7 +6,6 @@ use lib.Dec.{eqb}
 use lib.ListN.{set, replicate}
 use Rattle.words.specs.Lists.{join}
 use Rattle.words.specs.Bytes.{bytesOf, word32}
-use Rattle.model.specs.declared.Answer.{Answer}
 use Rattle.model.specs.declared.Answer.the-variants.{Refused, Done, Value}
 use Rattle.model.specs.Calls.{Call, call, start, barRead, barWrite}
 use Rattle.model.specs.Play.{Step, lends, does, fresh}

@@ -1,7 +1,6 @@
 -- Document 01, "Refusals of a running card": each row at its limit and before the next one; nothing changes. Assumes nothing.
 use mathlib.Core.Bool.{true}
 use mathlib.Core.List.{List, [], _∷_, _++_}
-use Prim.Native.Nat.{_+_}
 use Rattle.model.specs.declared.Answer.the-variants.{Refused, Done, Sent, Held, Lost}
 use Rattle.model.specs.Calls.{call, configRead, configWrite, barRead, barWrite, event, line, reset, save}
 use Rattle.model.specs.Play.{Step, lends, does, fresh}

@@ -5,7 +5,7 @@ use Prim.Native.Nat.{ℕ, _+_}
 use lib.ListN.{set, replicate}
 use Rattle.model.specs.declared.Answer.the-variants.{Held}
 use Rattle.model.specs.Play.{Step}
-use Rattle.model.specs.Cases.{put, capability, msix, listFrom, header, sizesOf, startCase, writes, readsConfig, saves, raises, drives, command, control, msixCase, wirePacket}
+use Rattle.model.specs.Cases.{put, msix, listFrom, header, sizesOf, startCase, writes, readsConfig, saves, raises, drives, command, control, msixCase, wirePacket}
 use Rattle.model.specs.Examples.Parts.{ones, onesUnlisted, imageBytes, writesWords, readsWords, reads, puts, formCase}
 
 -- ---- the n words from offset o on: as they are started, with all ones written, and with all zeros

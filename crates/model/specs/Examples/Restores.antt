@@ -102,7 +102,7 @@ damaged =
     ∷ (0, withByte 15 0x30)
     ∷ (0, withByte 18 0xff)
     ∷ (0, withByte 37 0xff)
-    -- configuration: what a start refuses withByte 10 to 14
+    -- configuration: what a start refuses with 10 to 14
     ∷ (22, restoring (config 0x0e 0x01 goodImage))
     ∷ (22, restoring (config 0x3d 0x05 goodImage))
     ∷ (22, restoring (config 0x34 0x3c goodImage))

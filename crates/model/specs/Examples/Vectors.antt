@@ -1,7 +1,7 @@
 -- Document 01, "Who is open": each bit that opens and shuts a vector, what an event means, and what is sent when. Assumes nothing.
 use mathlib.Core.Bool.{true}
 use mathlib.Core.List.{List, [], _∷_, _++_}
-use Prim.Native.Nat.{ℕ, _+_}
+use Prim.Native.Nat.{ℕ}
 use Rattle.model.specs.declared.Answer.the-variants.{Sent, Held, Merged, Lost}
 use Rattle.model.specs.Play.{Step}
 use Rattle.model.specs.Cases.{sizesOf, startCase, writes, readsConfig, readsBar, raises, stores, command, control, entry, unmask, msixCase, oneVector}

@@ -1,7 +1,7 @@
 -- Document 01, the wire: each pin's codes, and each condition of its level. Assumes nothing.
 use mathlib.Core.Bool.{true, false}
 use mathlib.Core.List.{List, [], _∷_, _++_}
-use Prim.Native.Nat.{ℕ, _+_}
+use Prim.Native.Nat.{ℕ}
 use Rattle.model.specs.declared.Answer.the-variants.{Held}
 use Rattle.model.specs.Play.{Step}
 use Rattle.model.specs.Cases.{header, sizesOf, writes, readsConfig, raises, drives, resets, command, control, plainCase, msixCase, oneVector, wirePacket, message64}
