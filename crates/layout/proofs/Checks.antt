@@ -9,7 +9,7 @@ use lib.ListN.{length}
 use Rattle.words.specs.Lists.{all, overlap, firstOf}
 use Rattle.model.specs.Capabilities.{capabilities, listed, broken, withId}
 use Rattle.model.specs.Shape.{formOf, msiPresent, msixPresent, tableBytes, pendingBytes, shapeOf}
-use Rattle.model.specs.Start.{Given, badHeader, misplaced, badStructures, outside, badRegions, badEvents, badBuffers, twice, startRefusal}
+use Rattle.model.specs.Start.{Given, badHeader, misplaced, badStructures, outside, badRegions, badEvents, badRequester, badBuffers, twice, startRefusal}
 use Rattle.model.specs.declared.Shape.{Shape}
 use Rattle.layout.specs.Checks.{apart, badMsi, badMsix, badPair, listedTwice}
 use Rattle.layout.specs.Places.{foundOf, listingIn, listingOf}
@@ -96,6 +96,15 @@ pub broken-listed : (c : List ℕ) (l : Listing) → l ≡ listingOf c → l .br
 unfolding listingOf listingIn
 broken-listed c l e = ap (λ (l : Listing). l .broken) e
 
+-- check 16
+pub requester-good : (r : ℕ) → r ≤ 65535 → r % 8 ≡ 0 → badRequester r ≡ false
+unfolding badRequester
+requester-good r h e = rw (eq-eqb (r % 8) 0 e, le-ltb 65535 r h)
+
+pub requester-bad : (r : ℕ) → (r % 8 ≡ 0 → ⊥) → badRequester r ≡ true
+unfolding badRequester
+requester-bad r e = rw (ne-eqb (r % 8) 0 e)
+
 -- the rows of a start; checks 11 and 12 are made on what the walk found
 abbrev rowsBy : Given → Bool → Bool → Shape → List (ℕ × Bool)
 rowsBy g isBroken isTwice s =
@@ -105,7 +114,7 @@ rowsBy g isBroken isTwice s =
     ∷ (13, badStructures (listed (capabilities (g .config))) s)
     ∷ (14, badRegions (g .sizes) s)
     ∷ (15, badEvents (g .events) s)
-    ∷ (16, not (eqb (g .requester % 8) 0))
+    ∷ (16, badRequester (g .requester))
     ∷ (17, badBuffers s (g .tableLength) (g .pendingLength))
     ∷ []
 

@@ -34,7 +34,7 @@ unfolding
     Packets.message Packets.wireMessage Packets.msiAddress Packets.msiUpper Packets.msiData Packets.entryMessage Packets.messageOf
     Release.pinNumber Release.isPin Release.levelDue Release.wireDue Release.wireChange Release.clearAll Release.sweptFor Release.bytesFor Release.owedNow Release.swept
     Release.sweepBytes Release.settleBytes Release.raiseVector Release.raise Release.raisedBy
-    Start.badHeader Start.twice Start.misplaced Start.badStructures Start.outside Start.badRegions Start.badEvents Start.badBuffers Start.startRefusal
+    Start.badHeader Start.twice Start.misplaced Start.badStructures Start.outside Start.badRegions Start.badEvents Start.badRequester Start.badBuffers Start.startRefusal
     Sound.zeroBits Sound.waitsBelow Sound.isEmpty Sound.soundEndpoint Sound.sound
     Image.mark Image.flags Image.cardBytes Image.imageOf Image.functionFrom Image.cardIn Image.worldIn Image.isSaved Image.restoreRefusal
     Calls.isSave Calls.badConfig Calls.badBar Calls.noMemory Calls.rows Calls.changed Calls.next Calls.sends Calls.answerOf Calls.answered Calls.ifRoom Calls.performed

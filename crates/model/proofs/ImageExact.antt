@@ -4,17 +4,17 @@ use mathlib.Core.Path.{_≡_, refl, sym, ap, _∙_}
 use mathlib.Core.Bool.{true, not, false≢true}
 use mathlib.Core.List.{List, []}
 use mathlib.Core.Logic.{_↔_}
-use Prim.Native.Nat.{ℕ, zero, suc, _^_, _≤_, min}
+use Prim.Native.Nat.{ℕ, zero, suc, _^_, _≤_}
 use native.Mathlib.Omega.{arith}
 use lib.Dec.{ltb, eqb}
-use lib.ListN.{length, take, drop, length-take, length-drop}
-use native.Mathlib.Nat.{min-eq-left}
+use lib.ListN.{length, take, drop}
 use borrow.Author.Tests.{eq-eqb, le-ltb, ltb-false, not-false}
 use Rattle.words.specs.Lists.{same, firstOf}
 use Rattle.words.specs.Bytes.{byte, number, word16, word32, words32, part, bytesOf, Below, empty, more, Bytes}
 use Rattle.words.proofs.BoolLaws.{both, neither, passed}
 use Rattle.words.proofs.ListLaws.{same-true, same-refl}
-use Rattle.words.proofs.ByteLaws.{number-lt, drop-bytes}
+use Rattle.words.proofs.ByteLaws.{number-lt, drop-bytes, length-part}
+use Rattle.words.proofs.BytesLaws.{bytes-part}
 use Rattle.model.specs.declared.Answer.the-variants.{Done}
 use Rattle.model.specs.Answers.{isAccepted}
 use Rattle.model.specs.Shape.{tableBytes}
@@ -87,19 +87,19 @@ length-words (suc n) l = ap suc (length-words n (drop 4 l))
 
 -- what an image of at least 294 bytes holds has the declared types
 held-typed : (image : List ℕ) → Bytes image → 294 ≤ length image → Typed (worldIn image)
-unfolding worldIn functionFrom part word16 word32
+unfolding worldIn functionFrom word16 word32
 held-typed image b h = record {
-  config = length-take 256 (drop 38 image) ∙ short (omega (arith, length-drop 38 image));
-  sizes = length-words 6 (drop 14 image);
-  small = words-below 6 (drop 14 image) (drop-bytes 14 image b);
+  arrays =
+      record {
+        config = length-part image 38 256 (omega arith);
+        bytes = bytes-part 38 256 image b;
+        sizes = length-words 6 (drop 14 image);
+        small = words-below 6 (drop 14 image) (drop-bytes 14 image b);
+      };
   events = number-lt (byte image) 6 2 b;
   requester = number-lt (byte image) 8 2 b;
   waiting = number-lt (byte image) 10 4 b;
 }
-  where
-    short : 256 ≤ length (drop 38 image) → min 256 (length (drop 38 image)) ≡ 256
-    short l = min-eq-left l
-
 saved-by : (image : List ℕ) (t p : ℕ) → Bytes image → restoreRefusal image t p ≡ 0 → SavedBy image (worldIn image)
 unfolding restoreRefusal isSaved
 saved-by image t p b e =
@@ -109,6 +109,10 @@ saved-by image t p b e =
     let long = ltb-false (length image) 294 (neither (ltb (length image) 294) (not (same (take 3 image) mark)) (r20 .0) .0) in
     let s = both (sound (worldIn image)) (same (imageOf (worldIn image)) image) (not-false (isSaved image) (r22 .0)) in
     record { typed = held-typed image b long; isSound = s .0; bytes = same-true (imageOf (worldIn image)) image (s .1) }
+
+-- the card of an accepted image has the declared types
+pub restored-typed : (image : List ℕ) (t p : ℕ) → Bytes image → restoreRefusal image t p ≡ 0 → Typed (worldIn image)
+restored-typed image t p b e = saved-by image t p b e .typed
 
 pub image-saved : (w : World) (image : List ℕ) → Bytes image → isAccepted (restoreOf w image .answer) ≡ true → SavedBy image (restoreOf w image .world)
 unfolding restoreOf isAccepted

@@ -7,6 +7,7 @@ pub mod BytesBound
 pub mod BytesReached
 pub mod ImageExact
 pub mod SoundKept
+pub mod TypedKept
 pub mod Starred
 pub mod Examples
 pub mod Definitions

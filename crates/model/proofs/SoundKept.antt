@@ -18,7 +18,7 @@ use Rattle.model.proofs.Vectors.EventLaws.{event-raises}
 use Rattle.model.proofs.Calls.CallLaws.{answered-elim, step-elim}
 use Rattle.model.proofs.Calls.Effects.{Effect, reads, saves, settles, raises, restarts, effect}
 
-effect-sound : (w : World) → sound w ≡ true → {b : Bool} {v : World} {bytes : List ℕ} → Effect w b v bytes → sound v ≡ true
+pub effect-sound : (w : World) → sound w ≡ true → {b : Bool} {v : World} {bytes : List ℕ} → Effect w b v bytes → sound v ≡ true
 effect-sound w k reads = k
 effect-sound w k saves = k
 effect-sound w k (settles u h) = sound-is _ (settled-sound (shape (w .endpoint)) u (h .ready))

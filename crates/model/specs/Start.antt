@@ -63,6 +63,10 @@ badRegions sizes s =
 unfoldable pub badEvents : ℕ → Shape → Bool
 badEvents e s = eqb e 0 || ltb 2048 e || (msixPresent s && not (eqb (s .msix .vectors) e))
 
+-- 16: requester's low three bits not 0; nor is a number of more than 16 bits a requester ID
+unfoldable pub badRequester : ℕ → Bool
+badRequester r = not (eqb (r % 8) 0) || ltb 65535 r
+
 -- 17: table buffer not 16N bytes, or pending buffer not 8 x (N/64 rounded up) bytes
 unfoldable pub badBuffers : Shape → (tableLength pendingLength : ℕ) → Bool
 badBuffers s tableLength pendingLength = not (eqb tableLength (tableBytes s)) || not (eqb pendingLength (pendingBytes s))
@@ -80,7 +84,7 @@ startRefusal g =
     ∷ (13, badStructures places s)
     ∷ (14, badRegions (g .sizes) s)
     ∷ (15, badEvents (g .events) s)
-    ∷ (16, not (eqb (g .requester % 8) 0))
+    ∷ (16, badRequester (g .requester))
     ∷ (17, badBuffers s (g .tableLength) (g .pendingLength))
     ∷ [])
 

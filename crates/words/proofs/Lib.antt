@@ -4,6 +4,7 @@ pub mod BoolLaws
 pub mod ListLaws
 pub mod PartLaws
 pub mod ByteLaws
+pub mod BytesLaws
 pub mod NumberLaws
 pub mod PutLaws
 pub mod LowestLaws

@@ -62,18 +62,18 @@ module _ (w : World) (f : Typed w) (fit : length (w .endpoint .table) ≡ tableB
   p = w .endpoint .pending
 
   hz : length z ≡ 24
-  hz = length-join32 (w .endpoint .function .sizes) ∙ ap (λ (n : ℕ). 4 * n) (f .sizes)
+  hz = length-join32 (w .endpoint .function .sizes) ∙ ap (λ (n : ℕ). 4 * n) (f .arrays .sizes)
 
   sizes-part : words32 6 (((z ++ c) ++ t) ++ p) ≡ w .endpoint .function .sizes
   sizes-part =
-      ap (words32 6) (grouped z c t p hz (f .config)) ∙ ap (λ (n : ℕ). words32 n (z ++ (c ++ (t ++ p)))) (sym (f .sizes))
-      ∙ words32-join (c ++ (t ++ p)) (f .small)
+      ap (words32 6) (grouped z c t p hz (f .arrays .config)) ∙ ap (λ (n : ℕ). words32 n (z ++ (c ++ (t ++ p)))) (sym (f .arrays .sizes))
+      ∙ words32-join (c ++ (t ++ p)) (f .arrays .small)
 
   table-part : take (tableBytes (shapeOf (take 256 (drop 24 (((z ++ c) ++ t) ++ p))))) (drop 280 (((z ++ c) ++ t) ++ p)) ≡ t
-  table-part = rw (config-part z c t p hz (f .config), buffers-part z c t p hz (f .config), take-at t p (tableBytes (shapeOf c)) fit)
+  table-part = rw (config-part z c t p hz (f .arrays .config), buffers-part z c t p hz (f .arrays .config), take-at t p (tableBytes (shapeOf c)) fit)
 
   pending-part : drop (tableBytes (shapeOf (take 256 (drop 24 (((z ++ c) ++ t) ++ p))))) (drop 280 (((z ++ c) ++ t) ++ p)) ≡ p
-  pending-part = rw (config-part z c t p hz (f .config), buffers-part z c t p hz (f .config), drop-at t p (tableBytes (shapeOf c)) fit)
+  pending-part = rw (config-part z c t p hz (f .arrays .config), buffers-part z c t p hz (f .arrays .config), drop-at t p (tableBytes (shapeOf c)) fit)
 
   -- the world that the image holds is the one saved
   pub image-reads : worldIn (imageOf w) ≡ w
@@ -83,7 +83,7 @@ module _ (w : World) (f : Typed w) (fit : length (w .endpoint .table) ≡ tableB
         record {
           function =
               record {
-                config = config-part z c t p hz (f .config) i;
+                config = config-part z c t p hz (f .arrays .config) i;
                 sizes = sizes-part i;
                 events = word16-of (w .endpoint .function .events) (f .events) i;
                 requester = word16-of (w .endpoint .function .requester) (f .requester) i;
@@ -100,7 +100,7 @@ module _ (w : World) (f : Typed w) (fit : length (w .endpoint .table) ≡ tableB
 
   pub image-length : length (imageOf w) ≡ 294 + length (w .endpoint .table) + length (w .endpoint .pending)
   unfolding imageOf cardBytes mark bytesOf
-  image-length = simp length-append (omega (arith, hz, f .config))
+  image-length = simp length-append (omega (arith, hz, f .arrays .config))
 
 -- the bytes of a card whose fields are all 0
 pub zero-bytes : (u : Endpoint) → cardBytes (zeroWorld u) ≡ replicate 289 0

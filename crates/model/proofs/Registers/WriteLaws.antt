@@ -10,8 +10,10 @@ use lib.Seq.{getD-set-same, getD-set-other}
 use borrow.Author.Tests.{ltb-true, ltb-false, leb-true, leb-false}
 use Rattle.words.specs.Lists.{within}
 use Rattle.words.specs.Bits.{merge, clear}
-use Rattle.words.specs.Bytes.{byte}
+use Rattle.words.specs.Bytes.{byte, Bytes}
 use Rattle.words.proofs.BitLaws.{clear-merge}
+use Rattle.words.proofs.ByteLaws.{bytes-set}
+use Rattle.words.proofs.BytesLaws.{merge-byte}
 use Rattle.words.proofs.BoolLaws.{cond-elim, by-test}
 use Rattle.model.specs.Registers.{written}
 
@@ -20,6 +22,13 @@ unfolding written
 length-written mask l i [] = refl
 length-written mask l i (b ∷ bs) =
     length-written mask (set l i (merge (mask i) (byte l i) b)) (suc i) bs ∙ length-set l i (merge (mask i) (byte l i) b)
+
+pub bytes-written : (mask : ℕ → ℕ) (l : List ℕ) (i : ℕ) (bs : List ℕ) → Bytes l → Bytes bs → Bytes (written mask l i bs)
+unfolding written
+bytes-written mask l i [] b d = b
+bytes-written mask l i (x ∷ bs) b d =
+    bytes-written mask (set l i (merge (mask i) (byte l i) x)) (suc i) bs
+    (bytes-set l i (merge (mask i) (byte l i) x) b (merge-byte (mask i) (byte l i) x (b i) (d 0))) (λ k. d (suc k))
 
 module _ (mask : ℕ → ℕ) where
   before : (l : List ℕ) (i : ℕ) (bs : List ℕ) (k : ℕ) → k < i → byte (written mask l i bs) k ≡ byte l k

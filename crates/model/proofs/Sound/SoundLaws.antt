@@ -13,7 +13,7 @@ use Rattle.model.specs.Shape.{shapeOf, msixPresent, tableBytes, pendingB
 use Rattle.model.specs.Registers.{storedZero, entryZero}
 use Rattle.model.specs.World.{World, Endpoint}
 use Rattle.model.specs.Release.{owedNow, wireDueOf}
-use Rattle.model.specs.Start.{Given, startRefusal, badHeader, twice, badStructures, badRegions, badEvents, badBuffers}
+use Rattle.model.specs.Start.{Given, startRefusal, badHeader, twice, badStructures, badRegions, badEvents, badRequester, badBuffers}
 use Rattle.model.specs.Sound.{givenOf, shape, zeroBits, waitsBelow, isEmpty, soundEndpoint, sound}
 
 -- ---- the rows of a start that is accepted
@@ -25,7 +25,7 @@ pub record Accepts (g : Given) : Type 0 where
   pub structures : badStructures (listed (capabilities (g .config))) (shapeOf (g .config)) ≡ false
   pub regions : badRegions (g .sizes) (shapeOf (g .config)) ≡ false
   pub events : badEvents (g .events) (shapeOf (g .config)) ≡ false
-  pub requester : eqb (g .requester % 8) 0 ≡ true
+  pub requester : badRequester (g .requester) ≡ false
   pub buffers : badBuffers (shapeOf (g .config)) (g .tableLength) (g .pendingLength) ≡ false
 
 pub accepts : (g : Given) → startRefusal g ≡ 0 → Accepts g
@@ -46,7 +46,7 @@ accepts g e =
       structures = d .0;
       regions = f .0;
       events = h .0;
-      requester = not-false (eqb (g .requester % 8) 0) (i .0);
+      requester = i .0;
       buffers = j .0;
     }
 
@@ -68,6 +68,10 @@ events-fit e s h =
       ltb-false 2048 e (g .1),
       λ p. eqb-true (s .msix .vectors) e (not-false (eqb (s .msix .vectors) e) (second-false (msixPresent s) (not (eqb (s .msix .vectors) e)) p (f .1))),
     )
+
+pub requester-fits : (r : ℕ) → badRequester r ≡ false → r ≤ 65535
+unfolding badRequester
+requester-fits r e = ltb-false 65535 r (neither (not (eqb (r % 8) 0)) (ltb 65535 r) e .1)
 
 -- ---- sound
 

@@ -1,15 +1,17 @@
 -- `refusal` meets its contract: each test that fails leaves the rows after it, and the first that passes gives its number. Assumes nothing.
 use denote.Ref.{now}
-use mathlib.Core.Path.{_≡_, sym, ap, _∙_}
-use mathlib.Core.Bool.{Bool, not}
+use mathlib.Core.Path.{_≡_, sym, _∙_}
+use mathlib.Core.Bool.{Bool}
 use mathlib.Core.List.{List}
-use Prim.Native.Nat.{ℕ}
+use Prim.Native.Nat.{ℕ, _≤_}
+use native.Mathlib.Omega.{arith}
+use mir.Val.{Fits}
+use mir.Syntax.{w16}
 use lib.ListN.{drop}
-use borrow.Author.Tests.{eq-eqb, ne-eqb}
 use Rattle.words.specs.Lists.{firstOf}
 use Rattle.words.proofs.BoolLaws.{row-passes, row-refuses}
 use Rattle.model.specs.Start.{Given, given, startRefusal}
-use Rattle.layout.proofs.Checks.{broken-listed, rowsOf, rows-are}
+use Rattle.layout.proofs.Checks.{broken-listed, requester-good, requester-bad, rowsOf, rows-are}
 use borrow.Author.Needs.{needs}
 use Rattle.layout.proofs.start.refusal.Statement.{statement}
 use Rattle.layout.proofs.start.refusal.Tie as tie
@@ -48,6 +50,10 @@ start₇ c = start₆ (c .before)
 abbrev start₈ : tie.Else8 → tie.Start
 start₈ c = start₇ (c .before .before)
 
+-- the requester ID has 16 bits
+requester-small : (c : tie.Start) → c .args .requester ≤ 65535
+requester-small c = let b : Fits w16 (c .args .requester) = search needs in omega (arith, b .fits)
+
 -- the first k rows do not apply
 abbrev Left : tie.Start → ℕ → Type 0
 Left c k = startRefusal (asked c) ≡ firstOf (drop k (rows c))
@@ -74,7 +80,7 @@ past-6 : (c : tie.Else6) → Left (start₆ c) 6
 past-6 c = past-5 (c .before .before) ∙ row-passes 15 _ (sym (c .before .bad-events .ensures) ∙ c .if6 .left)
 
 past-7 : (c : tie.Else7) → Left (start₇ c) 7
-past-7 c = past-6 (c .before) ∙ row-passes 16 _ (ap not (eq-eqb _ _ (c .if7 .left)))
+past-7 c = past-6 (c .before) ∙ row-passes 16 _ (requester-good _ (requester-small (start₇ c)) (c .if7 .left))
 
 past-8 : (c : tie.Else8) → Left (start₈ c) 8
 past-8 c = past-7 (c .before .before) ∙ row-passes 17 _ (sym (c .before .bad-buffers .ensures) ∙ c .if8 .left)
@@ -104,7 +110,7 @@ returns-6 : tie.Need-returns-6
 returns-6 c = sym (past-5 (c .before .before) ∙ row-refuses 15 _ (sym (c .before .bad-events .ensures) ∙ c .if6 .taken))
 
 returns-7 : tie.Need-returns-7
-returns-7 c = sym (past-6 (c .before) ∙ row-refuses 16 _ (ap not (ne-eqb _ _ (c .if7 .taken))))
+returns-7 c = sym (past-6 (c .before) ∙ row-refuses 16 _ (requester-bad _ (c .if7 .taken)))
 
 returns-8 : tie.Need-returns-8
 returns-8 c = sym (past-7 (c .before .before) ∙ row-refuses 17 _ (sym (c .before .bad-buffers .ensures) ∙ c .if8 .taken))
