@@ -23,7 +23,7 @@ use Rattle.model.specs.Sound.{sound, shape, givenOf}
 use Rattle.model.specs.Image.{mark, imageOf, functionFrom, worldIn, isSaved, restoreRefusal}
 use Rattle.model.specs.Calls.{Outcome, accepted, restoreOf}
 use Rattle.model.proofs.Sound.SoundLaws.{accepts, buffers-fit, is-sound}
-use Rattle.model.specs.Claims.{Typed, SavedBy, SameRoom}
+use Rattle.model.specs.Claims.{Typed, SavedBy, SameRoom, AcceptedIfSaved}
 use Rattle.model.proofs.Image.ImageLaws.{image-reads, image-length}
 use Rattle.model.proofs.Calls.CallLaws.{answered-elim, answered-yes}
 
@@ -75,7 +75,7 @@ gives-back w image v k f = ap (restoreOf w) (sym (k .bytes)) ∙ restored w v (k
 
 -- ---- an accepted image is one that its card saves
 
-words-below : (n : ℕ) (l : List ℕ) → Bytes l → Below (256 ^ 4) (words32 n l)
+pub words-below : (n : ℕ) (l : List ℕ) → Bytes l → Below (256 ^ 4) (words32 n l)
 unfolding words32 word32
 words-below zero l h = empty
 words-below (suc n) l h = more (number-lt (byte l) 0 4 h) (words-below n (drop 4 l) (drop-bytes 4 l h))
@@ -100,15 +100,21 @@ held-typed image b h = record {
   requester = number-lt (byte image) 8 2 b;
   waiting = number-lt (byte image) 10 4 b;
 }
+
+pub held-saved : (image : List ℕ) → Bytes image → 294 ≤ length image → isSaved image ≡ true → SavedBy image (worldIn image)
+unfolding isSaved
+held-saved image b long e =
+    let s = both (sound (worldIn image)) (same (imageOf (worldIn image)) image) e in
+    record { typed = held-typed image b long; isSound = s .0; bytes = same-true (imageOf (worldIn image)) image (s .1) }
+
 saved-by : (image : List ℕ) (t p : ℕ) → Bytes image → restoreRefusal image t p ≡ 0 → SavedBy image (worldIn image)
-unfolding restoreRefusal isSaved
+unfolding restoreRefusal
 saved-by image t p b e =
     let r20 = passed 20 _ refl e in
     let r21 = passed 21 _ refl (r20 .1) in
     let r22 = passed 22 _ refl (r21 .1) in
     let long = ltb-false (length image) 294 (neither (ltb (length image) 294) (not (same (take 3 image) mark)) (r20 .0) .0) in
-    let s = both (sound (worldIn image)) (same (imageOf (worldIn image)) image) (not-false (isSaved image) (r22 .0)) in
-    record { typed = held-typed image b long; isSound = s .0; bytes = same-true (imageOf (worldIn image)) image (s .1) }
+    held-saved image b long (not-false (isSaved image) (r22 .0))
 
 -- the card of an accepted image has the declared types
 pub restored-typed : (image : List ℕ) (t p : ℕ) → Bytes image → restoreRefusal image t p ≡ 0 → Typed (worldIn image)
@@ -123,9 +129,7 @@ image-saved w image b =
 
 -- ---- the theorem
 
--- over buffers that fit the card that the image holds, restore accepts the image exactly if saving some sound card writes it
-pub image-exact : (w : World) (image : List ℕ) → Bytes image → SameRoom w (worldIn image)
-    → (isAccepted (restoreOf w image .answer) ≡ true) ↔ ((v : World) × SavedBy image v)
+pub image-exact : (w : World) (image : List ℕ) → Bytes image → AcceptedIfSaved w image
 unfolding isAccepted
 image-exact w image b f = (
   λ e. (restoreOf w image .world, image-saved w image b e),

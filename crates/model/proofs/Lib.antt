@@ -6,6 +6,8 @@ pub mod Refusals
 pub mod BytesBound
 pub mod BytesReached
 pub mod ImageExact
+pub mod ImageRefused
+pub mod CardExact
 pub mod SoundKept
 pub mod TypedKept
 pub mod Starred

@@ -10,12 +10,12 @@ use lib.ListN.{length}
 use borrow.Author.Tests.{eqb-true, eqb-false, ltb-true, ltb-false, lt-ltb}
 use Rattle.words.specs.Lists.{firstOf, lacks}
 use Rattle.words.proofs.BoolLaws.{by-test, first-append, first-lacks, row-passes, row-refuses}
-use Rattle.model.specs.World.{World, Endpoint}
+use Rattle.model.specs.World.{World, Endpoint, cardOf}
 use Rattle.model.specs.Answers.{isAccepted, refusalOf, valueOf}
 use Rattle.model.specs.Sound.{sound}
 use Rattle.model.specs.Start.{Given, startRefusal}
 use Rattle.model.specs.Image.{restoreRefusal}
-use Rattle.model.specs.Claims.{Unchanged}
+use Rattle.model.specs.Claims.{Unchanged, AllZero, Nothing}
 use Rattle.model.specs.Calls.{Call, Outcome, configRead, configWrite, barRead, barWrite, event, line, reset, save}
 use Rattle.model.specs.Calls.{rows, next, sends, answerOf, outputOf, refusal, earlierRefusal, refused, step, startOf, restoreOf, zeroWorld}
 use Rattle.model.proofs.Calls.CallLaws.{answered-elim, room-short, room-fits, performed-row, performed-room, step-unsound, step-sound, step-elim}
@@ -40,6 +40,19 @@ unfolding startOf isAccepted
 refused-start u g =
     answered-elim (startRefusal g) _ _ (λ (r : Outcome). isAccepted (r .answer) ≡ false → Unchanged (zeroWorld u) [] r)
     (λ _ e. absurd (true≢false e)) (λ _ _. refused-so (zeroWorld u) (startRefusal g) [])
+
+-- its fields one by one
+pub refused-start-zero : (u : Endpoint) (g : Given) → isAccepted (startOf u g .answer) ≡ false → Nothing u (startOf u g)
+refused-start-zero u g e =
+    let k = refused-start u g e in
+    let card : AllZero (cardOf (zeroWorld u)) = record { config = refl; sizes = refl; events = refl; requester = refl; line = refl; waiting = refl; wire = refl } in
+    record {
+      card = rw (k .world) card;
+      table = ap (λ (w : World). w .endpoint .table) (k .world);
+      pending = ap (λ (w : World). w .endpoint .pending) (k .world);
+      count = k .count;
+      value = k .value;
+    }
 
 -- a restore hands back the card that it was given
 pub refused-restore : (w : World) (image : List ℕ) → isAccepted (restoreOf w image .answer) ≡ false → Unchanged w [] (restoreOf w image)

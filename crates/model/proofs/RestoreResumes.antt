@@ -16,7 +16,7 @@ use Rattle.model.specs.Release.{settled}
 use Rattle.model.specs.Start.{Given, startRefusal}
 use Rattle.model.specs.Sound.{sound, shape, givenOf}
 use Rattle.model.specs.Image.{imageOf, worldIn, restoreRefusal}
-use Rattle.model.specs.Claims.{Typed, SameRoom}
+use Rattle.model.specs.Claims.{Typed, SameRoom, Resumes}
 use Rattle.model.specs.Calls.{Call, Outcome, save, next, sends, accepted, step, startOf, startGiven, startedWorld, restoreOf, Operation, call, start, restore, operate}
 use Rattle.model.specs.Trials.{worldAfter, outcomes, wroteBytes}
 use Rattle.model.proofs.Registers.TableLaws.{length-table}
@@ -108,12 +108,8 @@ save-saved w out =
 
 -- ---- the theorem
 
--- an accepted save of any card, then any list of calls, starts and restores among them, then a restore of exactly the bytes that the save wrote,
--- over the same buffers: it is accepted, card and buffers are those after the save, and every list of calls that follows gives the same outcomes
-pub restore-resumes : (w : World) → Typed w → (out : List ℕ) → isAccepted (operate w (call (save out)) .answer) ≡ true → (between : List Operation)
-    → let saved : Outcome = operate w (call (save out)) in
-    let back : Outcome = operate (worldAfter (saved .world) between) (restore (wroteBytes saved)) in
-    (isAccepted (back .answer) ≡ true) × (back .world ≡ saved .world) × ((rest : List Operation) → outcomes (back .world) rest ≡ outcomes (saved .world) rest)
+-- of every card that the declared types can hold
+pub restore-resumes : (w : World) → Typed w → Resumes w
 unfolding isAccepted
 restore-resumes w t out a between = (
   ap (λ (r : Outcome). isAccepted (r .answer)) is,

@@ -32,6 +32,9 @@ pub record Entry : Type 0 where
   pub answer : Answer
   pub bytes : List ℕ
 
+abbrev pub entryOf : Call → Answer → List ℕ → Entry
+entryOf c a bytes = record { call = c; answer = a; bytes = bytes }
+
 abbrev pub Past : Type 0
 Past = List Entry
 
@@ -44,7 +47,7 @@ pub record Run : Type 0 where
 unfoldable pub called : Run → Call → Run
 called r c =
     let o : Outcome = step (r .world) c in
-    record { world = o .world; past = record { call = c; answer = o .answer; bytes = wroteBytes o } ∷ r .past }
+    record { world = o .world; past = entryOf c (o .answer) (wroteBytes o) ∷ r .past }
 
 -- a list of calls on a world with no past
 unfoldable pub run : World → List Call → Run

@@ -91,11 +91,15 @@ of-T false t = absurd t
 
 -- ---- rows of refusals
 
+-- another number than a row's: the row does not apply
+pub row-other : (n k : ℕ) {t : Bool} (rs : List (ℕ × Bool)) → eqb n k ≡ false → firstOf ((n, t) ∷ rs) ≡ k → (t ≡ false) × (firstOf rs ≡ k)
+unfolding firstOf
+row-other n k {t = true} rs p e = absurd (false≢true (sym p ∙ eq-eqb n k e))
+row-other n k {t = false} rs p e = (refl, e)
+
 -- no row applies: read off one row after the other
 pub passed : (n : ℕ) {t : Bool} (rs : List (ℕ × Bool)) → eqb n 0 ≡ false → firstOf ((n, t) ∷ rs) ≡ 0 → (t ≡ false) × (firstOf rs ≡ 0)
-unfolding firstOf
-passed n {t = true} rs p e = absurd (false≢true (sym p ∙ eq-eqb n 0 e))
-passed n {t = false} rs p e = (refl, e)
+passed n rs = row-other n 0 rs
 
 -- a row that does not apply
 pub row-passes : (n : ℕ) {t : Bool} (rs : List (ℕ × Bool)) → t ≡ false → firstOf ((n, t) ∷ rs) ≡ firstOf rs

@@ -14,7 +14,7 @@ use Rattle.model.specs.declared.Mode.{Mode}
 use Rattle.model.specs.declared.Mode.the-variants.{Pin, Msi, Msix}
 use Rattle.model.specs.declared.Shape.{Shape}
 use Rattle.model.specs.declared.Answer.{Answer}
-use Rattle.model.specs.declared.Answer.the-variants.{Done, Refused}
+use Rattle.model.specs.declared.Answer.the-variants.{Refused}
 use Rattle.model.specs.Answers.{isAccepted}
 use Rattle.model.specs.Shape.{shapeOf}
 use Rattle.model.specs.Registers.{configWritten, barWritten}
@@ -25,11 +25,12 @@ use Rattle.model.specs.Start.{Given, startRefusal}
 use Rattle.model.specs.Sound.{sound, shape}
 use Rattle.model.specs.Calls.{Call, configRead, configWrite, barRead, barWrite, event, line, reset, save, Outcome, changed, next, answerOf, step}
 use Rattle.model.specs.Trials.{wroteBytes}
-use Rattle.model.specs.History.{Entry, Location, Run, called, isReset, resets, puts, registersBy, openBy, meansBy, isEventFor, heldBy}
+use Rattle.model.specs.History.{Entry, entryOf, Location, Run, called, isReset, resets, puts, registersBy, openBy, meansBy, isEventFor, heldBy}
 use Rattle.model.proofs.Vectors.WaitingLaws.{OnlyWaiting, only-registers}
 use Rattle.model.proofs.Calls.CallLaws.{Passed, step-elim}
 use Rattle.model.proofs.Calls.AnswerLaws.{answer-accepted}
-use Rattle.model.proofs.Calls.Effects.{event-below}
+use Rattle.model.proofs.Calls.Effects.{event-below, effect}
+use Rattle.model.proofs.SoundKept.{effect-sound}
 use Rattle.model.proofs.Vectors.RunningLaws.{event-range}
 use Rattle.model.proofs.Vectors.RaisedLaws.{raised-only, raised-waits}
 use Rattle.model.proofs.History.HistoryRegisters.{registers-other, registers-configWrite, registers-barWrite, refused-resets, refused-wrote, idle-resets, idle-wrote}
@@ -38,9 +39,6 @@ use Rattle.model.proofs.History.HistoryReset.{resetting}
 
 -- ---- each call
 
-abbrev entryOf : Call → Answer → List ℕ → Entry
-entryOf c a bytes = record { call = c; answer = a; bytes = bytes }
-
 -- a call that leaves the waiting bits alone
 waits-kept : (m : Mode) (u u′ : Endpoint) (v : ℕ) → u′ .function .waiting ≡ u .function .waiting → u′ .pending ≡ u .pending → waits m u′ v ≡ waits m u v
 unfolding waits pendingBit
@@ -48,9 +46,9 @@ waits-kept Pin u u′ v a b = refl
 waits-kept Msi u u′ v a b = ap (λ (x : ℕ). bit x v) a
 waits-kept Msix u u′ v a b = ap (λ (l : List ℕ). bit (byte l (v / 8)) (v % 8)) b
 
-reset-resets : (out bytes : List ℕ) → resets (entryOf (reset out) Done bytes) ≡ true
-unfolding resets isReset isAccepted
-reset-resets out bytes = refl
+reset-resets : (out bytes : List ℕ) (a : Answer) → isAccepted a ≡ true → resets (entryOf (reset out) a bytes) ≡ true
+unfolding resets isReset
+reset-resets out bytes a t = rw t
 
 module _ (g : Given) (ok : startRefusal g ≡ 0) (m : Mode) (v : ℕ) (r : Run) (i : Good g r) (bytes : List ℕ) where
   abbrev w : World
@@ -59,7 +57,8 @@ module _ (g : Given) (ok : startRefusal g ≡ 0) (m : Mode) (v : ℕ) (r : Run) 
   abbrev u : Endpoint
   u = r .world .endpoint
 
-  refuses : (c : Call) (a : Answer) → isAccepted a ≡ false → LawOf g m v r (entered r (entryOf c a bytes) (r .world))
+  -- a refused call
+  pub refuses : (c : Call) (a : Answer) → isAccepted a ≡ false → LawOf g m v r (entered r (entryOf c a bytes) (r .world))
   refuses c a e =
       still g ok m v r i (entryOf c a bytes) (refused-resets (entryOf c a bytes) e) (λ l. refused-wrote (shapeOf (g .config)) (entryOf c a bytes) l e)
       (refused-held g m v (entryOf c a bytes) (r .past) e)
@@ -98,19 +97,18 @@ module _ (g : Given) (ok : startRefusal g ≡ 0) (m : Mode) (v : ℕ) (r : Run) 
       not-true (openBy g (r .past) m v)
       (both (isAccepted (x .answer) && isEventFor g (r .past) m v (x .call)) (not (openBy g (r .past) m v)) h .1)
 
-  events : isPin m ≡ false → (e : ℕ) (out : List ℕ) → e < r .world .endpoint .function .events
+  events : isPin m ≡ false → (e : ℕ) (out : List ℕ) (a : Answer) → isAccepted a ≡ true → e < r .world .endpoint .function .events
       → sound (settled (shape (r .world .endpoint)) (raisedBy (shape (r .world .endpoint)) (r .world .endpoint) e .endpoint)) ≡ true
-      → LawOf g m v r (entered r (entryOf (event e out) (raisedBy (shape (r .world .endpoint)) (r .world .endpoint) e .answer) bytes)
+      → LawOf g m v r (entered r (entryOf (event e out) a bytes)
       (settled (shape (r .world .endpoint)) (raisedBy (shape (r .world .endpoint)) (r .world .endpoint) e .endpoint)))
-  unfolding isReset puts answerOf
-  events p e out h k =
+  unfolding isReset puts
+  events p e out a t h k =
       sweeps g ok m v r i x (raisedBy (shape u) u e .endpoint) k quiet (only-registers only ∙ i .same ∙ sym kept) (only .pendingLength)
-      (raised-waits m (shape u) u e v p (event-range u e (soundness g r i) h)
-      ∙ ap (λ (b : Bool). waits m u v || b) (held-now e out (raisedBy (shape u) u e .answer) (answer-accepted u (event e out))))
+      (raised-waits m (shape u) u e v p (event-range u e (soundness g r i) h) ∙ ap (λ (b : Bool). waits m u v || b) (held-now e out a t))
       (λ t. open-same g m v (x ∷ r .past) (r .past) kept ∙ held-shut x t)
     where
       x : Entry
-      x = entryOf (event e out) (raisedBy (shape u) u e .answer) bytes
+      x = entryOf (event e out) a bytes
 
       only : OnlyWaiting u (raisedBy (shape u) u e .endpoint)
       only = raised-only (shape u) u e
@@ -121,41 +119,47 @@ module _ (g : Given) (ok : startRefusal g ≡ 0) (m : Mode) (v : ℕ) (r : Run) 
       kept : registersBy g (x ∷ r .past) ≡ registersBy g (r .past)
       kept = registers-other g x (r .past) quiet (λ l. idle-wrote (shapeOf (g .config)) x l refl)
 
-  -- every accepted call
-  accepts-call : isPin m ≡ false → (c : Call) → Passed (r .world) c → sound (next (r .world) c) ≡ true
-      → LawOf g m v r (entered r (entryOf c (answerOf (r .world .endpoint) c) bytes) (next (r .world) c))
-  unfolding next changed answerOf isReset puts isEventFor isAccepted
-  accepts-call p (configRead o n) z k = idles (configRead o n) (answerOf u (configRead o n)) refl (λ l. refl) refl
-  accepts-call p (configWrite o n x out) z k =
-      writes (configWrite o n x out) Done (changed u (configWrite o n x out)) k refl refl
+  -- every accepted call, with any answer that is no refusal
+  accepts-call : isPin m ≡ false → (c : Call) (a : Answer) → isAccepted a ≡ true → Passed (r .world) c → sound (next (r .world) c) ≡ true
+      → LawOf g m v r (entered r (entryOf c a bytes) (next (r .world) c))
+  unfolding next changed isReset puts isEventFor
+  accepts-call p (configRead o n) a t z k = idles (configRead o n) a refl (λ l. refl) refl
+  accepts-call p (configWrite o n x out) a t z k =
+      writes (configWrite o n x out) a (changed u (configWrite o n x out)) k refl refl
       (ap₂ (λ (s : Shape) (q : Registers). configWritten s q o (bytesOf n x)) (shape-now g r i ok) (i .same)
-      ∙ registers-configWrite g (r .past) Done refl out bytes o n x)
+      ∙ registers-configWrite g (r .past) a t out bytes o n x)
       refl (waits-kept m u (changed u (configWrite o n x out)) v refl refl)
-  accepts-call p (barRead b o n) z k = idles (barRead b o n) (answerOf u (barRead b o n)) refl (λ l. refl) refl
-  accepts-call p (barWrite b o n x out) z k =
-      writes (barWrite b o n x out) Done (changed u (barWrite b o n x out)) k refl refl
+  accepts-call p (barRead b o n) a t z k = idles (barRead b o n) a refl (λ l. refl) refl
+  accepts-call p (barWrite b o n x out) a t z k =
+      writes (barWrite b o n x out) a (changed u (barWrite b o n x out)) k refl refl
       (ap₂ (λ (s : Shape) (q : Registers). barWritten s q b o (bytesOf n x)) (shape-now g r i ok) (i .same)
-      ∙ registers-barWrite g (r .past) Done refl out bytes b o n x)
+      ∙ registers-barWrite g (r .past) a t out bytes b o n x)
       refl (waits-kept m u (changed u (barWrite b o n x out)) v refl refl)
-  accepts-call p (event e out) z k = events p e out (event-below u e out (z .own)) k
-  accepts-call p (line level out) z k =
-      writes (line level out) Done (changed u (line level out)) k refl refl
+  accepts-call p (event e out) a t z k = events p e out a t (event-below u e out (z .own)) k
+  accepts-call p (line level out) a t z k =
+      writes (line level out) a (changed u (line level out)) k refl refl
       (i .same ∙ sym (registers-other g x (r .past) (idle-resets x refl) (λ l. idle-wrote (shapeOf (g .config)) x l refl)))
       refl (waits-kept m u (changed u (line level out)) v refl refl)
     where
       x : Entry
-      x = entryOf (line level out) Done bytes
-  accepts-call p (reset out) z k = resetting g ok m v r i x false k (reset-resets out bytes) (idle-held g m v x (r .past) refl)
+      x = entryOf (line level out) a bytes
+  accepts-call p (reset out) a t z k = resetting g ok m v r i x false k (reset-resets out bytes a t) (idle-held g m v x (r .past) refl)
     where
       x : Entry
-      x = entryOf (reset out) Done bytes
-  accepts-call p (save out) z k = idles (save out) (answerOf u (save out)) refl (λ l. refl) refl
+      x = entryOf (reset out) a bytes
+  accepts-call p (save out) a t z k = idles (save out) a refl (λ l. refl) refl
 
--- every call that leaves a sound card
-pub call-law : (g : Given) → startRefusal g ≡ 0 → (m : Mode) (v : ℕ) (r : Run) → Good g r → isPin m ≡ false → (c : Call)
-    → sound (step (r .world) c .world) ≡ true → LawOf g m v r (called r c)
-unfolding called isAccepted
-call-law g ok m v r i p c =
-    step-elim (r .world) c
-    (λ (o : Outcome). sound (o .world) ≡ true → LawOf g m v r (entered r (entryOf c (o .answer) (wroteBytes o)) (o .world)))
-    (λ z k. accepts-call g ok m v r i _ p c z k) (λ n _ _. refuses g ok m v r i _ c (Refused n) refl)
+  -- a call entered with an answer that is a refusal exactly if the card's own is
+  pub entry-law : isPin m ≡ false → (c : Call) (a : Answer) → isAccepted a ≡ isAccepted (step (r .world) c .answer)
+      → LawOf g m v r (entered r (entryOf c a bytes) (step (r .world) c .world))
+  unfolding isAccepted
+  entry-law p c a =
+      step-elim (r .world) c (λ (o : Outcome). isAccepted a ≡ isAccepted (o .answer) → LawOf g m v r (entered r (entryOf c a bytes) (o .world)))
+      (λ z t.
+      accepts-call p c a (t ∙ answer-accepted u c) z (effect-sound w (i .isSound) (effect w c z)))
+      (λ n _ t. refuses c a t)
+
+-- every call
+pub call-law : (g : Given) → startRefusal g ≡ 0 → (m : Mode) (v : ℕ) (r : Run) → Good g r → isPin m ≡ false → (c : Call) → LawOf g m v r (called r c)
+unfolding called
+call-law g ok m v r i p c = entry-law g ok m v r i (wroteBytes (step (r .world) c)) p c (step (r .world) c .answer) refl

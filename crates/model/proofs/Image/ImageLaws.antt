@@ -16,14 +16,14 @@ use Rattle.model.specs.Claims.{Typed}
 use Rattle.model.specs.Image.{mark, flags, cardBytes, imageOf, functionFrom, worldIn}
 use Rattle.model.specs.Calls.{zeroWorld}
 
-line-flag : (a b : Bool) → bit (ofBool a + 2 * ofBool b) 0 ≡ a
+pub line-flag : (a b : Bool) → bit (ofBool a + 2 * ofBool b) 0 ≡ a
 unfolding bit ofBool
 line-flag true true = refl
 line-flag true false = refl
 line-flag false true = refl
 line-flag false false = refl
 
-wire-flag : (a b : Bool) → bit (ofBool a + 2 * ofBool b) 1 ≡ b
+pub wire-flag : (a b : Bool) → bit (ofBool a + 2 * ofBool b) 1 ≡ b
 unfolding bit ofBool
 wire-flag true true = refl
 wire-flag true false = refl
@@ -42,10 +42,10 @@ module _ (z c t p : List ℕ) (hz : length z ≡ 24) (hc : length c ≡ 256) whe
   buffers-part =
       sym (drop-drop 256 24 (((z ++ c) ++ t) ++ p)) ∙ rw (grouped, drop-at z (c ++ (t ++ p)) 24 hz, drop-at c (t ++ p) 256 hc)
 
-word16-of : (x : ℕ) → x < 256 ^ 2 → x % 256 + 256 * (x / 256 % 256 + 256 * 0) ≡ x
+pub word16-of : (x : ℕ) → x < 256 ^ 2 → x % 256 + 256 * (x / 256 % 256 + 256 * 0) ≡ x
 word16-of x h = omega arith
 
-word32-of : (x : ℕ) → x < 256 ^ 4 → x % 256 + 256 * (x / 256 % 256 + 256 * (x / 256 / 256 % 256 + 256 * (x / 256 / 256 / 256 % 256 + 256 * 0))) ≡ x
+pub word32-of : (x : ℕ) → x < 256 ^ 4 → x % 256 + 256 * (x / 256 % 256 + 256 * (x / 256 / 256 % 256 + 256 * (x / 256 / 256 / 256 % 256 + 256 * 0))) ≡ x
 word32-of x h = omega arith
 
 module _ (w : World) (f : Typed w) (fit : length (w .endpoint .table) ≡ tableBytes (shapeOf (w .endpoint .function .config))) where
