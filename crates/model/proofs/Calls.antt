@@ -11,3 +11,4 @@ pub mod SaveCalls
 pub mod StartCalls
 pub mod RestoreCalls
 pub mod PlayLaws
+pub mod WideCalls
