@@ -1,2 +1,4 @@
 pub mod Crossing
+pub mod Hosts
+pub mod HostClaims
 pub mod Numbers

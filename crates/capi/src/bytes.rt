@@ -4,20 +4,25 @@ ghost use mathlib.Core.List.{[]};
 ghost use lib.ListN.{length};
 ghost use Rattle.model.specs.World.{worldOf};
 ghost use Rattle.model.specs.Image.{cardBytes};
-ghost use Rattle.capi.specs.Crossing.{isCard};
+ghost use Rattle.model.specs.Answers.{refusalOf};
+ghost use Rattle.model.specs.Calls.{Call, call};
+ghost use Rattle.capi.specs.Crossing.{unread, cardOver};
 ghost use Rattle.capi.specs.Numbers.{numbers, numbersOf};
 use card::outcome::Outcome;
 use image::format::Image;
 use model::Answer;
 
-// The bytes are those of a card.
-pub fn is_card(bytes: &[u8]) -> bool
-    ensures { λ r. ⌜ r ≡ isCard (now (bytes .entry)) ⌝ }
+// What refuses a call of a running card before the card is read: 60 another length, 1 another flag than line and wire; else 0.
+pub fn unread(bytes: &[u8]) -> u8
+    ensures { λ r. ⌜ ((c : Call) → r ≡ unread (now (bytes .entry)) (call c)) ⌝ }
 {
     if bytes.len() != Image::CARD {
-        return false;
+        return 60;
     }
-    image::get::card_flags_clean(bytes)
+    if !image::get::card_flags_clean(bytes) {
+        return 1;
+    }
+    0
 }
 
 // An answer as numbers: the refusal, the value of a read, and what became of an event; each 0 where there is none.
@@ -61,7 +66,7 @@ pub fn numbers_of(answer: Answer) -> Numbers
 }
 
 // Writes the card of an outcome over the bytes of the card before it.
-pub fn hand_back(bytes: &mut [u8], outcome: Outcome) -> Numbers
+pub fn hand_out(bytes: &mut [u8], outcome: Outcome) -> Numbers
     requires { ⌜ length (now bytes) ≡ 289 ⌝ }
     ensures { λ r. ⌜ (r ≡ numbersOf (outcome .answer)) × (now (bytes .exit) ≡ cardBytes (worldOf (outcome .card) [] [])) ⌝ }
 {
@@ -69,4 +74,17 @@ pub fn hand_back(bytes: &mut [u8], outcome: Outcome) -> Numbers
     let answer = outcome.answer;
     image::put::put_card(bytes, card);
     numbers_of(answer)
+}
+
+// The same where the call was accepted; a refused one leaves the bytes.
+pub fn hand_back(bytes: &mut [u8], outcome: Outcome) -> Numbers
+    requires { ⌜ length (now bytes) ≡ 289 ⌝ }
+    ensures { λ r. ⌜ (r ≡ numbersOf (outcome .answer)) × (now (bytes .exit) ≡ cardOver (refusalOf (outcome .answer)) (now (bytes .entry)) (worldOf (outcome .card) [] [])) ⌝ }
+{
+    let answer = outcome.answer;
+    let numbers = numbers_of(answer);
+    if numbers.refusal != 0 {
+        return numbers;
+    }
+    hand_out(bytes, outcome)
 }

@@ -5,7 +5,8 @@ ghost use lib.Dec.{eqb};
 ghost use Rattle.model.specs.Calls.{call, event, line};
 ghost use Rattle.capi.specs.Crossing.{handed, crossed};
 use crate::bytes::hand_back;
-use crate::bytes::is_card;
+use crate::bytes::unread;
+use crate::narrow::narrow16;
 use image::get::card_of;
 
 #[no_mangle]
@@ -13,7 +14,7 @@ pub extern "C" fn musgarento_event(
     card: &mut [u8],
     table: &[u8],
     pending: &mut [u8],
-    number: u16,
+    number: u64,
     out: &mut [u8],
     answer: &mut u8,
     count: &mut usize,
@@ -23,11 +24,12 @@ pub extern "C" fn musgarento_event(
 {
     *answer = 0;
     *count = 0;
-    if !is_card(card) {
-        return 60;
+    let refusal = unread(card);
+    if refusal != 0 {
+        return refusal;
     }
     let held = card_of(card);
-    let outcome = interrupt::event::event(held, table, pending, number, out);
+    let outcome = interrupt::event::event(held, table, pending, narrow16(number), out);
     *count = outcome.count;
     let numbers = hand_back(card, outcome);
     *answer = numbers.event;
@@ -40,7 +42,7 @@ pub extern "C" fn musgarento_line(
     card: &mut [u8],
     table: &[u8],
     pending: &[u8],
-    level: u8,
+    level: u64,
     out: &mut [u8],
     count: &mut usize,
 ) -> u8
@@ -48,8 +50,9 @@ pub extern "C" fn musgarento_line(
         ≡ crossed (now (card .entry)) (now (table .entry)) (now (pending .entry)) (call (line (not (eqb level 0)) (now (out .entry)))) ⌝ }
 {
     *count = 0;
-    if !is_card(card) {
-        return 60;
+    let refusal = unread(card);
+    if refusal != 0 {
+        return refusal;
     }
     let held = card_of(card);
     let outcome = interrupt::line::line(held, table, pending, level != 0, out);

@@ -4,8 +4,9 @@ ghost use mathlib.Core.List.{[]};
 ghost use Rattle.model.specs.Calls.{call, save, restore};
 ghost use Rattle.capi.specs.Crossing.{handed, crossed};
 use crate::bytes::hand_back;
-use crate::bytes::is_card;
 use crate::bytes::numbers_of;
+use crate::bytes::unread;
+use image::format::Image;
 use image::get::card_of;
 
 #[no_mangle]
@@ -20,8 +21,9 @@ pub extern "C" fn musgarento_save(
         ≡ crossed (now (card .entry)) (now (table .entry)) (now (pending .entry)) (call (save (now (out .entry)))) ⌝ }
 {
     *count = 0;
-    if !is_card(card) {
-        return 60;
+    let refusal = unread(card);
+    if refusal != 0 {
+        return refusal;
     }
     let held = card_of(card);
     let outcome = snapshot::save::save(held, table, pending, out);
@@ -31,7 +33,7 @@ pub extern "C" fn musgarento_save(
     numbers.refusal
 }
 
-// A refused restore hands back the card that it was given.
+// Of the bytes of the card a restore asks only how many there are, and a refused one leaves them.
 #[no_mangle]
 pub extern "C" fn musgarento_restore(
     card: &mut [u8],
@@ -42,7 +44,7 @@ pub extern "C" fn musgarento_restore(
     ensures { λ r. ⌜ handed r (now (card .exit)) (now (table .exit)) (now (pending .exit)) [] 0 0 0
         ≡ crossed (now (card .entry)) (now (table .entry)) (now (pending .entry)) (restore (now (image .entry))) ⌝ }
 {
-    if !is_card(card) {
+    if card.len() != Image::CARD {
         return 60;
     }
     let held = card_of(card);

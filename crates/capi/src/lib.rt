@@ -3,6 +3,7 @@ mod bytes;
 pub mod events;
 mod given;
 pub mod images;
+mod narrow;
 pub mod reads;
 pub mod starts;
 pub mod writes;

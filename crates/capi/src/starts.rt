@@ -4,9 +4,11 @@ ghost use mathlib.Core.List.{[]};
 ghost use Rattle.model.specs.Calls.{call, start, reset};
 ghost use Rattle.capi.specs.Crossing.{handed, crossed};
 use crate::bytes::hand_back;
-use crate::bytes::is_card;
+use crate::bytes::hand_out;
+use crate::bytes::unread;
 use crate::given::config_of;
 use crate::given::sizes_of;
+use crate::narrow::narrow16;
 use image::format::Image;
 use image::get::card_of;
 
@@ -16,8 +18,8 @@ pub extern "C" fn musgarento_start(
     card: &mut [u8],
     config: &[u8],
     sizes: &[u32],
-    events: u16,
-    requester: u16,
+    events: u64,
+    requester: u64,
     table: &mut [u8],
     pending: &mut [u8],
 ) -> u8
@@ -35,8 +37,15 @@ pub extern "C" fn musgarento_start(
     }
     let bytes = config_of(config);
     let words = sizes_of(sizes);
-    let outcome = lifecycle::start::start(bytes, words, events, requester, table, pending);
-    let numbers = hand_back(card, outcome);
+    let outcome = lifecycle::start::start(
+        bytes,
+        words,
+        narrow16(events),
+        narrow16(requester),
+        table,
+        pending,
+    );
+    let numbers = hand_out(card, outcome);
     numbers.refusal
 }
 
@@ -52,8 +61,9 @@ pub extern "C" fn musgarento_reset(
         ≡ crossed (now (card .entry)) (now (table .entry)) (now (pending .entry)) (call (reset (now (out .entry)))) ⌝ }
 {
     *count = 0;
-    if !is_card(card) {
-        return 60;
+    let refusal = unread(card);
+    if refusal != 0 {
+        return refusal;
     }
     let held = card_of(card);
     let outcome = lifecycle::reset::reset(held, table, pending, out);

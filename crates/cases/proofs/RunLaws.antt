@@ -13,9 +13,9 @@ use Rattle.words.proofs.PartLaws.{clipped-part, written-part, equal-bytes}
 use Rattle.model.specs.declared.Answer.{Answer}
 use Rattle.model.specs.declared.Card.{Card}
 use Rattle.model.specs.World.{worldOf, endpointOf, zeroFunction}
-use Rattle.model.specs.Calls.{operate, startOf, startGiven}
+use Rattle.model.specs.Calls.{operate, startOf, startGiven, lentOutput}
 use Rattle.model.specs.Calls as Calls
-use Rattle.model.specs.Play.{Played, fresh, right, played, lends, does, lentOutput}
+use Rattle.model.specs.Play.{Played, fresh, right, played, lends, does}
 use Rattle.model.proofs.Calls.StartCalls.{start-buffers}
 use Rattle.model.proofs.Calls.PlayLaws.{right-anywhere, played-does, played-lends}
 use Rattle.card.specs.declared.outcome.Outcome.{Outcome}

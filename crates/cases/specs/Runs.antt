@@ -5,8 +5,8 @@ use mathlib.Core.List.{List}
 use Prim.Native.Nat.{ℕ, _+_, _*_, _/_}
 use lib.ListN.{take}
 use Rattle.model.specs.World.{worldOf}
-use Rattle.model.specs.Calls.{operate}
-use Rattle.model.specs.Play.{Played, fresh, lentOutput}
+use Rattle.model.specs.Calls.{operate, lentOutput}
+use Rattle.model.specs.Play.{Played, fresh}
 use Rattle.card.specs.Outcomes.{after}
 use Rattle.cases.specs.declared.row.Row.{Row}
 use Rattle.cases.specs.declared.run.Run.{Run}

@@ -11,13 +11,11 @@ use Rattle.words.specs.Lists.{same, lacks}
 use Rattle.words.specs.Bytes.{word16, Bytes}
 use Rattle.words.proofs.BoolLaws.{neither, or-intro, and-intro, by-test, first-lacks, row-other, row-passes, row-refuses}
 use Rattle.words.proofs.ListLaws.{same-true, same-refl}
-use Rattle.model.specs.Answers.{refusalOf}
 use Rattle.model.specs.World.{World}
 use Rattle.model.specs.Sound.{sound}
 use Rattle.model.specs.Image.{mark, imageOf, worldIn, isSaved, restoreRefusal}
 use Rattle.model.specs.Claims.{SavedBy, RefusedIfUnsaved}
-use Rattle.model.specs.Calls.{Outcome, restoreOf}
-use Rattle.model.proofs.Calls.CallLaws.{answered-elim}
+use Rattle.model.proofs.Refusals.{restore-number}
 use Rattle.model.proofs.ImageExact.{reads-back, held-saved}
 
 is-saved : (image : List ℕ) (v : World) → SavedBy image v → isSaved image ≡ true
@@ -26,14 +24,6 @@ is-saved image v k =
     let held : worldIn image ≡ v = ap worldIn (sym (k .bytes)) ∙ reads-back v (k .typed) (k .isSound) in
     and-intro (sound (worldIn image)) (same (imageOf (worldIn image)) image)
     (ap sound held ∙ k .isSound) (ap (λ (l : List ℕ). same l image) (ap imageOf held ∙ k .bytes) ∙ same-refl image)
-
--- the number that a restore answers
-restore-number : (w : World) (image : List ℕ)
-    → refusalOf (restoreOf w image .answer) ≡ restoreRefusal image (length (w .endpoint .table)) (length (w .endpoint .pending))
-unfolding restoreOf refusalOf
-restore-number w image =
-    let n : ℕ = restoreRefusal image (length (w .endpoint .table)) (length (w .endpoint .pending)) in
-    answered-elim n _ _ (λ (r : Outcome). refusalOf (r .answer) ≡ n) (λ e. sym e) (λ _. refl)
 
 module _ (w : World) (image : List ℕ) (b : Bytes image) where
   abbrev number : ℕ

@@ -1,7 +1,7 @@
 -- Demand 1: a refused call changes nothing, and lack of room is the reason exactly when nothing else is. Assumes nothing.
 use mathlib.Core.Path.{_≡_, refl, sym, ap, _∙_}
 use mathlib.Core.Bool.{Bool, true, false, not, cond, true≢false}
-use mathlib.Core.List.{List, [], _∷_}
+use mathlib.Core.List.{List, [], _∷_, _++_}
 use mathlib.Core.Logic.{_↔_}
 use Prim.Native.Nat.{ℕ, _<_}
 use native.Mathlib.Omega.{arith}
@@ -16,7 +16,7 @@ use Rattle.model.specs.Sound.{sound}
 use Rattle.model.specs.Start.{Given, startRefusal}
 use Rattle.model.specs.Image.{restoreRefusal}
 use Rattle.model.specs.Claims.{Unchanged, AllZero, Nothing}
-use Rattle.model.specs.Calls.{Call, Outcome, configRead, configWrite, barRead, barWrite, event, line, reset, save}
+use Rattle.model.specs.Calls.{Call, Outcome, configRead, configWrite, barRead, barWrite, event, line, reset, save, Operation, call, start, restore, operate, answered}
 use Rattle.model.specs.Calls.{rows, next, sends, answerOf, outputOf, refusal, earlierRefusal, refused, step, startOf, restoreOf, zeroWorld}
 use Rattle.model.proofs.Calls.CallLaws.{answered-elim, room-short, room-fits, performed-row, performed-room, step-unsound, step-sound, step-elim}
 use Rattle.model.proofs.Calls.AnswerLaws.{accepted-zero, answer-accepted}
@@ -127,3 +127,36 @@ module _ (w : World) (c : Call) where
         (p .0, ltb-true (length (outputOf c)) (length (sends w c)) (p .1)),
     λ p. refusal-number ∙ refusal-is ∙ rw (p .0, lt-ltb (length (outputOf c)) (length (sends w c)) (p .1)),
   )
+
+-- ---- the numbers of a start and a restore
+
+answered-number : (n : ℕ) (a r : Outcome) → refusalOf (a .answer) ≡ 0 → refusalOf (r .answer) ≡ n → refusalOf (answered n a r .answer) ≡ n
+answered-number n a r p q = answered-elim n a r (λ (o : Outcome). refusalOf (o .answer) ≡ n) (λ e. p ∙ sym e) (λ _. q)
+
+pub start-number : (u : Endpoint) (g : Given) → refusalOf (startOf u g .answer) ≡ startRefusal g
+unfolding startOf refusalOf
+start-number u g = answered-number (startRefusal g) _ _ refl refl
+
+pub restore-number : (w : World) (image : List ℕ)
+    → refusalOf (restoreOf w image .answer) ≡ restoreRefusal image (length (w .endpoint .table)) (length (w .endpoint .pending))
+unfolding restoreOf refusalOf
+restore-number w image = answered-number (restoreRefusal image (length (w .endpoint .table)) (length (w .endpoint .pending))) _ _ refl refl
+
+-- ---- no table has the number 60
+
+lacks-sixty : (w : World) (c : Call) → lacks 60 ((1, not (sound w)) ∷ (rows (w .endpoint) c ++ ((6, ltb (length (outputOf c)) (length (sends w c))) ∷ []))) ≡ true
+unfolding rows lacks
+lacks-sixty w (configRead o n) = refl
+lacks-sixty w (configWrite o n x out) = refl
+lacks-sixty w (barRead b o n) = refl
+lacks-sixty w (barWrite b o n x out) = refl
+lacks-sixty w (event e out) = refl
+lacks-sixty w (line level out) = refl
+lacks-sixty w (reset out) = refl
+lacks-sixty w (save out) = refl
+
+pub not-sixty : (w : World) (o : Operation) → eqb (refusalOf (operate w o .answer)) 60 ≡ false
+unfolding refusal startRefusal restoreRefusal lacks
+not-sixty w (call c) = ap (λ (n : ℕ). eqb n 60) (refusal-number w c) ∙ first-lacks 60 _ refl (lacks-sixty w c)
+not-sixty w (start config sizes events requester) = ap (λ (n : ℕ). eqb n 60) (start-number _ _) ∙ first-lacks 60 _ refl refl
+not-sixty w (restore image) = ap (λ (n : ℕ). eqb n 60) (restore-number w image) ∙ first-lacks 60 _ refl refl

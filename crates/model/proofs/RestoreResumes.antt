@@ -78,7 +78,7 @@ room-restored w image e =
       pending = sym (eqb-true p (length (worldIn image .endpoint .pending)) (not-false (eqb p (length (worldIn image .endpoint .pending))) (n .1)));
     }
 
-room-operate : (w : World) (o : Operation) → SameRoom (operate w o .world) w
+pub room-operate : (w : World) (o : Operation) → SameRoom (operate w o .world) w
 unfolding startOf restoreOf
 room-operate w (call c) = room-step w c
 room-operate w (start config sizes events requester) =
@@ -99,7 +99,7 @@ pub record Saved (w : World) (r : Outcome) : Type 0 where
   pub kept : r .world ≡ w
   pub image : wroteBytes r ≡ imageOf w
 
-save-saved : (w : World) (out : List ℕ) → isAccepted (step w (save out) .answer) ≡ true → Saved w (step w (save out))
+pub save-saved : (w : World) (out : List ℕ) → isAccepted (step w (save out) .answer) ≡ true → Saved w (step w (save out))
 unfolding next sends wroteBytes isAccepted
 save-saved w out =
     step-elim w (save out) (λ (r : Outcome). isAccepted (r .answer) ≡ true → Saved w r)

@@ -1,5 +1,5 @@
 -- The declared types are kept: whatever is called, the card stays one that its types can hold. Assumes nothing.
-use mathlib.Core.Path.{_≡_, refl, _∙_}
+use mathlib.Core.Path.{_≡_, refl, sym, ap, _∙_, subst}
 use mathlib.Core.Bool.{Bool, true}
 use mathlib.Core.List.{List, []}
 use Prim.Native.Nat.{ℕ, _^_, _≤_, _<_}
@@ -8,6 +8,7 @@ use native.Mathlib.Omega.{arith}
 use lib.ListN.{length}
 use lib.Pow.{pow-mono}
 use Rattle.words.specs.Bits.{clear}
+use Rattle.words.specs.Bytes.{Below, Bytes}
 use Rattle.words.proofs.BitLaws.{clear-le}
 use Rattle.words.proofs.BytesLaws.{bytes-each, bytes-replicate, below-replicate}
 use Rattle.model.specs.declared.Shape.{Shape}
@@ -52,37 +53,65 @@ sound-typed w s a =
 
 -- ---- the arrays after a call
 
-arrays-only : (u u′ : Endpoint) → OnlyWaiting u u′ → ArraysOf u → ArraysOf u′
-arrays-only u u′ o a = rw (o .config, o .sizes) a
+-- the configuration has as many bytes as before, and the sizes are the same
+pub record Alike (u u′ : Endpoint) : Type 0 where
+  pub config : length (u′ .function .config) ≡ length (u .function .config)
+  pub bytes : Bytes (u .function .config) → Bytes (u′ .function .config)
+  pub sizes : u′ .function .sizes ≡ u .function .sizes
+
+alike-refl : (u : Endpoint) → Alike u u
+alike-refl u = record { config = refl; bytes = λ b. b; sizes = refl }
+
+alike-trans : {u v w : Endpoint} → Alike u v → Alike v w → Alike u w
+alike-trans p q = record { config = q .config ∙ p .config; bytes = λ b. q .bytes (p .bytes b); sizes = q .sizes ∙ p .sizes }
+
+alike-only : {u u′ : Endpoint} → OnlyWaiting u u′ → Alike u u′
+alike-only {u} o = record { config = ap length (o .config); bytes = λ b. subst Bytes (sym (o .config)) b; sizes = o .sizes }
 
 fixed-byte : (s : Shape) (i b : ℕ) → b < 256 → fixedByte s i b < 256
 unfolding fixedByte
 fixed-byte s i b h = omega (arith, clear-le (writable s i) (clear (storedZero s i) b), clear-le (storedZero s i) b)
 
-arrays-started : (s : Shape) (config sizes : List ℕ) → Arrays config sizes → Arrays (startedConfig s config) sizes
+started-bytes : (s : Shape) (config : List ℕ) → Bytes config → Bytes (startedConfig s config)
 unfolding startedConfig
-arrays-started s config sizes a = record {
-  config = length-started s config ∙ a .config;
-  bytes = bytes-each (fixedByte s) (fixed-byte s) 0 config (a .bytes);
-  sizes = a .sizes;
-  small = a .small;
+started-bytes s config b = bytes-each (fixedByte s) (fixed-byte s) 0 config b
+
+alike-effect : (w : World) → {b : Bool} {v : World} {bytes : List ℕ} → Effect w b v bytes → Alike (w .endpoint) (v .endpoint)
+alike-effect w reads = alike-refl (w .endpoint)
+alike-effect w saves = alike-refl (w .endpoint)
+alike-effect w (settles u h) =
+    alike-trans (record { config = h .config; bytes = h .bytes; sizes = h .sizes }) (alike-only (swept-only (shape (w .endpoint)) u))
+alike-effect w (raises e h) =
+    alike-trans (alike-only (raised-only (shape (w .endpoint)) (w .endpoint) e)) (alike-only (swept-only (shape (w .endpoint)) _))
+alike-effect w restarts = record {
+  config = length-started (shape (w .endpoint)) (w .endpoint .function .config);
+  bytes = started-bytes (shape (w .endpoint)) (w .endpoint .function .config);
+  sizes = refl;
 }
 
-effect-arrays : (w : World) → {b : Bool} {v : World} {bytes : List ℕ} → Effect w b v bytes → ArraysOf (w .endpoint) → ArraysOf (v .endpoint)
-effect-arrays w reads a = a
-effect-arrays w saves a = a
-effect-arrays w (settles u h) a = arrays-only u _ (swept-only (shape (w .endpoint)) u) (h .arrays a)
-effect-arrays w (raises e h) a =
-    arrays-only _ _ (swept-only (shape (w .endpoint)) _) (arrays-only (w .endpoint) _ (raised-only (shape (w .endpoint)) (w .endpoint) e) a)
-effect-arrays w restarts a = arrays-started (shape (w .endpoint)) (w .endpoint .function .config) (w .endpoint .function .sizes) a
+pub alike-step : (w : World) (c : Call) → Alike (w .endpoint) (step w c .world .endpoint)
+alike-step w c =
+    step-elim w c (λ (r : Outcome). Alike (w .endpoint) (r .world .endpoint)) (λ p. alike-effect w (effect w c p)) (λ _ _. alike-refl (w .endpoint))
+
+arrays-alike : {u u′ : Endpoint} → Alike u u′ → ArraysOf u → ArraysOf u′
+arrays-alike k a = record {
+  config = k .config ∙ a .config;
+  bytes = k .bytes (a .bytes);
+  sizes = ap length (k .sizes) ∙ a .sizes;
+  small = subst (Below (256 ^ 4)) (sym (k .sizes)) (a .small);
+}
 
 -- ---- the theorem
+
+arrays-started : (s : Shape) {config sizes : List ℕ} → Arrays config sizes → Arrays (startedConfig s config) sizes
+arrays-started s {config} a =
+    record { config = length-started s config ∙ a .config; bytes = started-bytes s config (a .bytes); sizes = a .sizes; small = a .small }
 
 -- a call of a running card
 pub typed-step : (w : World) → Typed w → (c : Call) → Typed (step w c .world)
 typed-step w t c =
     step-elim w c (λ (r : Outcome). Typed (r .world))
-    (λ p. let x = effect w c p in sound-typed (next w c) (effect-sound w (p .isSound) x) (effect-arrays w x (t .arrays))) (λ _ _. t)
+    (λ p. let x = effect w c p in sound-typed (next w c) (effect-sound w (p .isSound) x) (arrays-alike (alike-effect w x) (t .arrays))) (λ _ _. t)
 
 zero-typed : (u : Endpoint) → Typed (zeroWorld u)
 zero-typed u = record {
@@ -99,5 +128,5 @@ typed-kept w t _ (ofCall c) = typed-step w t c
 typed-kept w t _ (ofStart {config} {sizes} events requester a) =
     let g : Given = startGiven (w .endpoint) config sizes events requester in
     answered-elim _ _ _ (λ (r : Outcome). Typed (r .world))
-    (λ e. sound-typed (startedWorld g) (started-sound g e) (arrays-started (shapeOf config) config sizes a)) (λ _. zero-typed (w .endpoint))
+    (λ e. sound-typed (startedWorld g) (started-sound g e) (arrays-started (shapeOf config) a)) (λ _. zero-typed (w .endpoint))
 typed-kept w t _ (ofRestore {image} b) = answered-elim _ _ _ (λ (r : Outcome). Typed (r .world)) (restored-typed image _ _ b) (λ _. t)

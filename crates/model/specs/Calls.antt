@@ -216,3 +216,9 @@ abbrev pub operate : World → Operation → Outcome
 operate w (call c) = step w c
 operate w (start config sizes events requester) = startOf (w .endpoint) (startGiven (w .endpoint) config sizes events requester)
 operate w (restore image) = restoreOf w image
+
+-- the output lent to it
+abbrev pub lentOutput : Operation → List ℕ
+lentOutput (call c) = outputOf c
+lentOutput (start config sizes events requester) = []
+lentOutput (restore image) = []

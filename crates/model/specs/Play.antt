@@ -9,7 +9,7 @@ use Rattle.words.specs.Writers.{over}
 use Rattle.model.specs.declared.Answer.{Answer}
 use Rattle.model.specs.World.{World, zeroFunction, endpointOf}
 use Rattle.model.specs.Answers.{sameAnswer}
-use Rattle.model.specs.Calls.{Operation, Outcome, operate, outputOf, call, start, restore}
+use Rattle.model.specs.Calls.{Operation, Outcome, operate, lentOutput}
 
 -- a step of a case: buffers for n vectors are lent to the card, or a call is made that should send these bytes and give this answer
 pub data Step : Type 0 where
@@ -33,12 +33,6 @@ pub record Played : Type 0 where
 -- no card yet, and no buffers
 abbrev pub unplayed : Played
 unplayed = record { world = record { endpoint = endpointOf zeroFunction [] []; wire = false }; good = true }
-
--- the output of a call
-abbrev pub lentOutput : Operation → List ℕ
-lentOutput (call c) = outputOf c
-lentOutput (start config sizes events requester) = []
-lentOutput (restore image) = []
 
 unfoldable pub played : Played → Step → Played
 played p (lends n) =

@@ -111,6 +111,11 @@ pub row-refuses : (n : ℕ) {t : Bool} (rs : List (ℕ × Bool)) → t ≡ true 
 unfolding firstOf
 row-refuses n rs e = rw e
 
+-- no row is left
+pub no-row : firstOf [] ≡ 0
+unfolding firstOf
+no-row = refl
+
 -- what is true of 0 and of a row's number
 pub first-elim : (P : ℕ → Type 0) (n : ℕ) (t : Bool) (rs : List (ℕ × Bool)) → P n → P (firstOf rs) → P (firstOf ((n, t) ∷ rs))
 unfolding firstOf

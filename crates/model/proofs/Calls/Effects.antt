@@ -7,7 +7,7 @@ use Prim.Native.Nat.{ℕ, _-_, _<_}
 use lib.ListN.{length}
 use borrow.Author.Tests.{leb-false}
 use Rattle.words.specs.Lists.{firstOf}
-use Rattle.words.specs.Bytes.{byte, bytesOf}
+use Rattle.words.specs.Bytes.{byte, bytesOf, Bytes}
 use Rattle.words.proofs.BoolLaws.{passed, cond-elim}
 use Rattle.words.proofs.ByteLaws.{bytesOf-lt}
 use Rattle.model.specs.Registers.{writable, storedZero, entryWritable, entryZero, written, inTable, configWritten, barWritten}
@@ -18,7 +18,6 @@ use Rattle.model.specs.Sound.{givenOf, shape}
 use Rattle.model.specs.Ready.{Ready}
 use Rattle.model.specs.Image.{imageOf}
 use Rattle.model.specs.Calls.{Call, configRead, configWrite, barRead, barWrite, event, line, reset, save, isSave, rows, changed, next, sends, resetEndpoint}
-use Rattle.model.specs.Claims.{Arrays}
 use Rattle.model.proofs.Registers.WriteLaws.{length-written, bytes-written}
 use Rattle.model.proofs.Shapes.ShapeLaws.{shape-same, pin-same, refusal-same}
 use Rattle.model.proofs.Registers.FixedLaws.{fixed-written}
@@ -84,9 +83,11 @@ module _ (u : Endpoint) (k : SoundEndpoint u) where
 
 -- ---- what an accepted call does
 
--- a change of a function that leaves it ready to be swept, with its shape, the types of its arrays, and the lengths of its buffers
+-- a change of a function that leaves it ready to be swept, with its shape, its sizes, and the lengths of its buffers
 pub record Change (u u′ : Endpoint) : Type 0 where
-  pub arrays : Arrays (u .function .config) (u .function .sizes) → Arrays (u′ .function .config) (u′ .function .sizes)
+  pub config : length (u′ .function .config) ≡ length (u .function .config)
+  pub bytes : Bytes (u .function .config) → Bytes (u′ .function .config)
+  pub sizes : u′ .function .sizes ≡ u .function .sizes
   pub ready : Ready (shape u) u′
   pub table : length (u′ .table) ≡ length (u .table)
   pub pending : length (u′ .pending) ≡ length (u .pending)
@@ -113,15 +114,6 @@ bar-table u b o bs =
     cond-elim (λ (l : List ℕ). length l ≡ length (u .table)) (inTable (shape u) b o)
     (λ _. length-written entryWritable (u .table) (o - shape u .msix .table .at) bs) (λ _. refl)
 
-arrays-written : (u : Endpoint) (o n x : ℕ) → Arrays (u .function .config) (u .function .sizes)
-    → Arrays (written (writable (shape u)) (u .function .config) o (bytesOf n x)) (u .function .sizes)
-arrays-written u o n x a = record {
-  config = length-written (writable (shape u)) (u .function .config) o (bytesOf n x) ∙ a .config;
-  bytes = bytes-written (writable (shape u)) (u .function .config) o (bytesOf n x) (a .bytes) (bytesOf-lt n x);
-  sizes = a .sizes;
-  small = a .small;
-}
-
 pub effect : (w : World) (c : Call) → Passed w c → Effect w (isSave c) (next w c) (sends w c)
 unfolding next changed sends isSave
 effect w (configRead o n) p = reads
@@ -129,7 +121,9 @@ effect w (configWrite o n x out) p =
     settles _
     (record {
       ready = ready-config (w .endpoint) (is-sound w (p .isSound) .endpoint) o (bytesOf n x);
-      arrays = arrays-written (w .endpoint) o n x;
+      config = length-written (writable (shape (w .endpoint))) (w .endpoint .function .config) o (bytesOf n x);
+      bytes = λ b. bytes-written (writable (shape (w .endpoint))) (w .endpoint .function .config) o (bytesOf n x) b (bytesOf-lt n x);
+      sizes = refl;
       table = refl;
       pending = refl;
     })
@@ -138,12 +132,22 @@ effect w (barWrite b o n x out) p =
     settles _
     (record {
       ready = ready-bar (w .endpoint) (is-sound w (p .isSound) .endpoint) b o (bytesOf n x);
-      arrays = λ a. a;
+      config = refl;
+      bytes = λ b. b;
+      sizes = refl;
       table = bar-table (w .endpoint) b o (bytesOf n x);
       pending = refl;
     })
 effect w (event e out) p = raises e (event-below (w .endpoint) e out (p .own))
 effect w (line level out) p =
-    settles _ (record { ready = ready-line (w .endpoint) (is-sound w (p .isSound) .endpoint) level; arrays = λ a. a; table = refl; pending = refl })
+    settles _
+    (record {
+      ready = ready-line (w .endpoint) (is-sound w (p .isSound) .endpoint) level;
+      config = refl;
+      bytes = λ b. b;
+      sizes = refl;
+      table = refl;
+      pending = refl;
+    })
 effect w (reset out) p = restarts
 effect w (save out) p = saves

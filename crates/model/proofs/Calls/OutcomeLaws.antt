@@ -1,16 +1,17 @@
 -- What the outcome of a call does not have, and which calls leave the card as it was. Assumes nothing.
 use mathlib.Core.Path.{_≡_, refl, ap}
-use mathlib.Core.Bool.{false}
+use mathlib.Core.Bool.{true, false}
 use mathlib.Core.List.{List, []}
 use Prim.Native.Nat.{ℕ}
 use lib.ListN.{length}
-use Rattle.model.specs.Answers.{valueOf, eventCode}
+use borrow.Author.Tests.{eqb-false}
+use Rattle.model.specs.Answers.{refusalOf, isAccepted, valueOf, eventCode}
 use Rattle.model.specs.World.{World, Endpoint}
 use Rattle.model.specs.Image.{restoreRefusal}
 use Rattle.model.specs.Start.{Given, startRefusal}
 use Rattle.model.specs.Calls.{Call, Outcome, configRead, barRead, save, next, sends, step, startOf, restoreOf}
 use Rattle.model.proofs.Calls.CallLaws.{answered-elim, step-elim}
-use Rattle.model.proofs.Calls.AnswerLaws.{hasValue, isEvent, answer-value, answer-code}
+use Rattle.model.proofs.Calls.AnswerLaws.{hasValue, isEvent, answer-value, answer-code, answer-accepted}
 
 module _ (w : World) (c : Call) where
   -- only a read has a value
@@ -22,6 +23,13 @@ module _ (w : World) (c : Call) where
   pub no-code : isEvent c ≡ false → eventCode (step w c .answer) ≡ 0
   unfolding eventCode
   no-code k = step-elim w c (λ (r : Outcome). eventCode (r .answer) ≡ 0) (λ _. answer-code (w .endpoint) c k) (λ _ _. refl)
+
+  -- a call whose number is 0 is accepted
+  pub zero-accepted : refusalOf (step w c .answer) ≡ 0 → isAccepted (step w c .answer) ≡ true
+  unfolding refusalOf isAccepted
+  zero-accepted =
+      step-elim w c (λ (r : Outcome). refusalOf (r .answer) ≡ 0 → isAccepted (r .answer) ≡ true)
+      (λ _ _. answer-accepted (w .endpoint) c) (λ n z e. absurd (eqb-false n 0 z e))
 
 -- ---- outcomes
 

@@ -12,10 +12,10 @@ use Rattle.words.specs.Writers.{over}
 use Rattle.words.proofs.BoolLaws.{both, and-intro, by-test, of-T}
 use Rattle.words.proofs.ListLaws.{same-true}
 use Rattle.model.specs.declared.Answer.{Answer}
-use Rattle.model.specs.Calls.{Operation, Outcome, operate}
+use Rattle.model.specs.Calls.{Operation, Outcome, operate, lentOutput}
 use Rattle.model.specs.World.{worldOf, cardOf}
 use Rattle.model.specs.Answers.{sameAnswer}
-use Rattle.model.specs.Play.{Step, lends, does, Played, fresh, right, lentOutput, unplayed, played, playedAll, passes, allPass}
+use Rattle.model.specs.Play.{Step, lends, does, Played, fresh, right, unplayed, played, playedAll, passes, allPass}
 use Rattle.model.specs.Cases.{starredCases, limitCases, benchCases}
 use Rattle.model.proofs.Calls.AnswerLaws.{same-equal}
 use Rattle.model.proofs.Starred.{starred, limits}

@@ -1,6 +1,6 @@
 -- Numbers wider than a type: a rule that refuses every number from k on gives k and the wide number the same answer, so that the largest number of
 -- the type may be handed on in place of a wider one. Assumes nothing.
-use mathlib.Core.Path.{_≡_, refl, sym, ap, _∙_}
+use mathlib.Core.Path.{_≡_, refl, sym, ap, ap₂, _∙_}
 use mathlib.Core.Bool.{Bool, true, false, not, _&&_, _||_, or-false, false≢true}
 use mathlib.Core.List.{List, [], _∷_}
 use Prim.Native.Nat.{ℕ, zero, suc, _+_, _%_, _^_, _≤_, _<_, min}
@@ -85,17 +85,22 @@ module _ (w : World) (o n : ℕ) where
   kept-config e =
       (wide-kept (λ x. badConfig x n) 65535 (λ x e. config-fits x n e .0) o e, wide-kept (badConfig o) 255 (λ x e. config-fits o x e .1) n e)
 
-  pub wide-config-read : step w (configRead (min o 65535) (min n 255)) ≡ step w (configRead o n)
-  unfolding rows
-  wide-config-read =
-      alike w (configRead (min o 65535) (min n 255)) (configRead o n) refl (λ _. ap (λ (b : Bool). firstOf ((3, b) ∷ [])) same-config)
-      (λ _ z. let k = kept-config (passed 3 [] refl z .0) in λ i. configRead (k .0 i) (k .1 i))
+  -- o′ and n′ are handed on
+  module _ (o′ n′ : ℕ) (p : o′ ≡ min o 65535) (q : n′ ≡ min n 255) where
+    same-rows : _≡_ {A = ℕ} (firstOf ((3, badConfig o′ n′) ∷ [])) (firstOf ((3, badConfig o n) ∷ []))
+    same-rows = ap (λ (b : Bool). firstOf ((3, b) ∷ [])) (ap₂ badConfig p q ∙ same-config)
 
-  pub wide-config-write : (x : ℕ) (out : List ℕ) → step w (configWrite (min o 65535) (min n 255) x out) ≡ step w (configWrite o n x out)
-  unfolding rows
-  wide-config-write x out =
-      alike w (configWrite (min o 65535) (min n 255) x out) (configWrite o n x out) refl (λ _. ap (λ (b : Bool). firstOf ((3, b) ∷ [])) same-config)
-      (λ _ z. let k = kept-config (passed 3 [] refl z .0) in λ i. configWrite (k .0 i) (k .1 i) x out)
+    kept : firstOf ((3, badConfig o n) ∷ []) ≡ 0 → (o′ ≡ o) × (n′ ≡ n)
+    kept z = let k = kept-config (passed 3 [] refl z .0) in (p ∙ k .0, q ∙ k .1)
+
+    pub wide-config-read : step w (configRead o′ n′) ≡ step w (configRead o n)
+    unfolding rows
+    wide-config-read = alike w (configRead o′ n′) (configRead o n) refl (λ _. same-rows) (λ _ z. λ i. configRead (kept z .0 i) (kept z .1 i))
+
+    pub wide-config-write : (x : ℕ) (out : List ℕ) → step w (configWrite o′ n′ x out) ≡ step w (configWrite o n x out)
+    unfolding rows
+    wide-config-write x out =
+        alike w (configWrite o′ n′ x out) (configWrite o n x out) refl (λ _. same-rows) (λ _ z. λ i. configWrite (kept z .0 i) (kept z .1 i) x out)
 
 -- 4: table and pending array lie in BARs of less than 2^32 bytes
 byte-below : {k : ℕ} {l : List ℕ} → 0 < k → Below k l → (i : ℕ) → byte l i < k
@@ -153,26 +158,39 @@ module _ (w : World) (small : Below (256 ^ 4) (w .endpoint .function .sizes)) (b
   regions : sound w ≡ true → badRegions (w .endpoint .function .sizes) (shape (w .endpoint)) ≡ false
   regions s = accepts (givenOf (w .endpoint)) (is-sound w s .endpoint .start) .regions
 
-  pub wide-bar-read : step w (barRead (min b 255) (min o 4294967295) (min n 255)) ≡ step w (barRead b o n)
-  unfolding rows
-  wide-bar-read =
-      alike w (barRead (min b 255) (min o 4294967295) (min n 255)) (barRead b o n) refl
-      (λ s. ap (λ (t : Bool). firstOf ((4, t) ∷ (5, noMemory (w .endpoint)) ∷ [])) (same-bar _ small (shape (w .endpoint)) (regions s) b o n))
-      (λ s z. let k = kept-bar _ small (shape (w .endpoint)) (regions s) b o n (passed 4 _ refl z .0) in λ i. barRead (k .0 i) (k .1 i) (k .2 i))
+  -- b′, o′ and n′ are handed on
+  module _ (b′ o′ n′ : ℕ) (p : b′ ≡ min b 255) (q : o′ ≡ min o 4294967295) (r : n′ ≡ min n 255) where
+    abbrev rowsBy : Bool → List (ℕ × Bool)
+    rowsBy t = (4, t) ∷ (5, noMemory (w .endpoint)) ∷ []
 
-  pub wide-bar-write : (x : ℕ) (out : List ℕ) → step w (barWrite (min b 255) (min o 4294967295) (min n 255) x out) ≡ step w (barWrite b o n x out)
-  unfolding rows
-  wide-bar-write x out =
-      alike w (barWrite (min b 255) (min o 4294967295) (min n 255) x out) (barWrite b o n x out) refl
-      (λ s. ap (λ (t : Bool). firstOf ((4, t) ∷ (5, noMemory (w .endpoint)) ∷ [])) (same-bar _ small (shape (w .endpoint)) (regions s) b o n))
-      (λ s z. let k = kept-bar _ small (shape (w .endpoint)) (regions s) b o n (passed 4 _ refl z .0) in λ i. barWrite (k .0 i) (k .1 i) (k .2 i) x out)
+    same-bars : sound w ≡ true → firstOf (rowsBy (badBar (shape (w .endpoint)) b′ o′ n′)) ≡ firstOf (rowsBy (badBar (shape (w .endpoint)) b o n))
+    same-bars s =
+        ap (λ (t : Bool). firstOf (rowsBy t))
+        ((λ i. badBar (shape (w .endpoint)) (p i) (q i) (r i)) ∙ same-bar (w .endpoint .function .sizes) small (shape (w .endpoint)) (regions s) b o n)
+
+    kept-bars : sound w ≡ true → firstOf (rowsBy (badBar (shape (w .endpoint)) b o n)) ≡ 0 → (b′ ≡ b) × (o′ ≡ o) × (n′ ≡ n)
+    kept-bars s z =
+        let k = kept-bar (w .endpoint .function .sizes) small (shape (w .endpoint)) (regions s) b o n (passed 4 _ refl z .0) in
+        (p ∙ k .0, q ∙ k .1, r ∙ k .2)
+
+    pub wide-bar-read : step w (barRead b′ o′ n′) ≡ step w (barRead b o n)
+    unfolding rows
+    wide-bar-read =
+        alike w (barRead b′ o′ n′) (barRead b o n) refl same-bars (λ s z. let k = kept-bars s z in λ i. barRead (k .0 i) (k .1 i) (k .2 i))
+
+    pub wide-bar-write : (x : ℕ) (out : List ℕ) → step w (barWrite b′ o′ n′ x out) ≡ step w (barWrite b o n x out)
+    unfolding rows
+    wide-bar-write x out =
+        alike w (barWrite b′ o′ n′ x out) (barWrite b o n x out) refl same-bars
+        (λ s z. let k = kept-bars s z in λ i. barWrite (k .0 i) (k .1 i) (k .2 i) x out)
 
 -- 2: E is at most 2,048
-pub wide-event : (w : World) (e : ℕ) (out : List ℕ) → step w (event (min e 65535) out) ≡ step w (event e out)
+pub wide-event : (w : World) (e e′ : ℕ) (out : List ℕ) → e′ ≡ min e 65535 → step w (event e′ out) ≡ step w (event e out)
 unfolding rows
-wide-event w e out =
-    alike w (event (min e 65535) out) (event e out) refl (λ s. ap (λ (t : Bool). firstOf ((2, t) ∷ [])) (wide-test (leb count) 65535 (fits s) e))
-    (λ s z. ap (λ (x : ℕ). event x out) (wide-kept (leb count) 65535 (fits s) e (passed 2 [] refl z .0)))
+wide-event w e e′ out p =
+    alike w (event e′ out) (event e out) refl
+    (λ s. ap (λ (t : Bool). firstOf ((2, t) ∷ [])) (ap (leb count) p ∙ wide-test (leb count) 65535 (fits s) e))
+    (λ s z. ap (λ (x : ℕ). event x out) (p ∙ wide-kept (leb count) 65535 (fits s) e (passed 2 [] refl z .0)))
   where
     count : ℕ
     count = w .endpoint .function .events

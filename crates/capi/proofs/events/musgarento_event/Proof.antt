@@ -1,44 +1,47 @@
--- 60 where the bytes are no card's; else the event on the card that they hold, its card and its answer handed back. Assumes nothing.
+-- 60 or 1 where the bytes are no card's; else the event on the card that they hold, its card and its answer handed back. Assumes nothing.
 use denote.Ref.{now}
-use mathlib.Core.Path.{refl}
-use Rattle.model.specs.Calls.{Operation, call, event}
+use mathlib.Core.Path.{refl, sym, _∙_}
+use Rattle.model.specs.Calls.{Call, call, event}
 use Rattle.model.proofs.Calls.OutcomeLaws.{no-value}
-use Rattle.capi.specs.Crossing.{wellFormed, lent}
-use Rattle.capi.proofs.CardFor.{card-room, card-size}
-use Rattle.capi.proofs.CrossingFor.{no-card, answers-back}
+use Rattle.model.proofs.Calls.WideCalls.{wide-event}
+use Rattle.capi.proofs.CardFor.{Readable, readable, card-room}
+use Rattle.capi.proofs.CrossingFor.{stopped, answers-back}
 use borrow.Author.Needs.{needs}
 use Rattle.capi.proofs.events.musgarento_event.Statement.{statement}
 use Rattle.capi.proofs.events.musgarento_event.Tie as tie
 
--- what is played, as the test of the bytes finds it
-abbrev operation : tie.After-is-card → Operation
-operation c =
+-- what is called, as the test of the bytes finds it
+abbrev called : tie.After-unread → Call
+called c =
     let start = c .before .before .before .before .before .before in
-    call (event (start .args .number) (now (start .args .out)))
+    event (start .args .number) (now (start .args .out))
 
 returns : tie.Need-returns
-unfolding wellFormed lent
-returns c = no-card _ _ _ (operation (c .before)) refl _ (c .before .is-card .ensures) _ refl (c .if1 .taken)
+returns c = stopped _ _ _ (call (called (c .before))) _ (c .before .unread .ensures _) (c .if1 .taken)
+
+-- the bytes of the card that is read
+read : (c : tie.Else1) → Readable (now (c .before .before .before .before .before .before .before .args .card))
+read c = readable _ _ (c .before .unread .ensures) (c .if1 .left)
 
 card-of-requires : tie.Need-card-of-requires
-card-of-requires c κs = card-room _ _ (c .before .before .is-card .ensures) (c .before .if1 .left)
+card-of-requires c κs = card-room (read (c .before))
 
 hand-back-requires : tie.Need-hand-back-requires
 hand-back-requires c κs =
-    let at-if1 = c .before .before .before .before .before .before .before .before .before .before in
-    let at-is-card = at-if1 .before in
-    card-size _ _ (at-is-card .is-card .ensures) (at-if1 .if1 .left)
+    let at-if1 = c .before .before .before .before .before .before .before .before .before .before .before in
+    read at-if1 .size
 
 returns-2 : tie.Need-returns-2
-unfolding wellFormed
 returns-2 c =
     let at-hand-back = c .before .before in
     let at-event = at-hand-back .before .before .before .before .before .before in
-    let at-card-of = at-event .before .before .before in
+    let at-narrow16 = at-event .before .before in
+    let at-card-of = at-narrow16 .before .before in
     let at-if1 = at-card-of .before .before in
-    let at-is-card = at-if1 .before in
-    answers-back _ _ _ (operation at-is-card) refl _ (at-is-card .is-card .ensures) (at-if1 .if1 .left) _
-    (at-card-of .card-of .ensures) _ _ _ _ (at-event .event .ensures) _ (at-hand-back .hand-back .ensures .0) _ (at-hand-back .hand-back .ensures .1)
+    let at-unread = at-if1 .before in
+    let accepted = sym (at-unread .unread .ensures _) ∙ at-if1 .if1 .left in
+    answers-back _ _ _ (called at-unread) accepted _ (at-card-of .card-of .ensures) _ _ _ _
+    (at-event .event .ensures ∙ wide-event _ _ _ _ (at-narrow16 .narrow16 .ensures)) _ (at-hand-back .hand-back .ensures .0) _ (at-hand-back .hand-back .ensures .1)
     (no-value _ _ refl)
 
 pub musgarento-event-spec : {M : Type 1} → statement M
@@ -48,7 +51,7 @@ musgarento-event-spec =
     (λ c κs. search needs) (λ c. search needs)
     returns
     card-of-requires
-    (λ c κs. search needs)
+    (λ c κs. search needs) (λ c κs. search needs)
     hand-back-requires
     (λ c. search needs) (λ c. search needs) (λ c. search needs)
     returns-2)

@@ -1,54 +1,32 @@
--- 60 where the bytes are no card's; else the restore of the image, its card handed back. Assumes nothing.
-use denote.Ref.{now}
-use mathlib.Core.Path.{refl}
-use Rattle.model.specs.Calls.{Operation, restore}
-use Rattle.model.proofs.Calls.OutcomeLaws.{restore-bare}
-use Rattle.capi.specs.Crossing.{wellFormed, lent}
-use Rattle.capi.proofs.CardFor.{card-room, card-size}
-use Rattle.capi.proofs.CrossingFor.{no-card, restores-back}
+-- 60 where the card's length is another; else the restore of the image, its card handed back. Assumes nothing.
+use Rattle.capi.proofs.CrossingFor.{restore-stops, restore-reads, restores-back}
 use borrow.Author.Needs.{needs}
 use Rattle.capi.proofs.images.musgarento_restore.Statement.{statement}
 use Rattle.capi.proofs.images.musgarento_restore.Tie as tie
 
--- what is played, as the test of the bytes finds it
-abbrev operation : tie.After-is-card → Operation
-operation c =
-    let start = c .before .before .before .before .before .before in
-    restore (now (start .args .image))
-
 returns : tie.Need-returns
-unfolding wellFormed lent
-returns c = no-card _ _ _ (operation (c .before)) refl _ (c .before .is-card .ensures) _ refl (c .if1 .taken)
-
-card-of-requires : tie.Need-card-of-requires
-card-of-requires c κs = card-room _ _ (c .before .before .is-card .ensures) (c .before .if1 .left)
+returns c = restore-stops _ _ _ _ (c .if1 .taken)
 
 hand-back-requires : tie.Need-hand-back-requires
 hand-back-requires c κs =
     let at-if1 = c .before .before .before .before .before .before .before .before .before .before in
-    let at-is-card = at-if1 .before in
-    card-size _ _ (at-is-card .is-card .ensures) (at-if1 .if1 .left)
+    at-if1 .if1 .left
 
 returns-2 : tie.Need-returns-2
-unfolding wellFormed
 returns-2 c =
     let at-hand-back = c .before .before in
     let at-restore = at-hand-back .before .before .before .before .before .before in
     let at-card-of = at-restore .before .before .before in
     let at-if1 = at-card-of .before .before in
-    let at-is-card = at-if1 .before in
-    restores-back _ _ _ (operation at-is-card) refl _ (at-is-card .is-card .ensures) (at-if1 .if1 .left) _
-    (at-card-of .card-of .ensures) _ _ _ _ (at-restore .restore .ensures) _ (at-hand-back .hand-back .ensures .0) _
-    (at-hand-back .hand-back .ensures .1) (restore-bare _ _)
+    restores-back _ _ _ _ (restore-reads _ _ (at-if1 .if1 .left)) _ (at-card-of .card-of .ensures) _ _ _ (at-restore .restore .ensures) _
+    (at-hand-back .hand-back .ensures .0) _ (at-hand-back .hand-back .ensures .1)
 
 pub musgarento-restore-spec : {M : Type 1} → statement M
 musgarento-restore-spec =
     tie.close
     (tie.spec
-    (λ c κs. search needs) (λ c. search needs)
     returns
-    card-of-requires
-    (λ c κs. search needs)
+    (λ c κs. search needs) (λ c κs. search needs)
     hand-back-requires
     (λ c. search needs) (λ c. search needs) (λ c. search needs)
     returns-2)

@@ -1,38 +1,46 @@
--- 60 where the bytes are no card's; else the save of the card that they hold, whose bytes stay. Assumes nothing.
+-- 60 or 1 where the bytes are no card's; else the save of the card that they hold, whose bytes stay. Assumes nothing.
 use denote.Ref.{now}
-use mathlib.Core.Path.{refl}
-use Rattle.model.specs.Calls.{Operation, call, save}
+use mathlib.Core.Path.{refl, sym, _∙_}
+use Rattle.words.specs.Bytes.{Bytes}
+use Rattle.model.specs.Calls.{Call, call, save}
 use Rattle.model.proofs.Calls.OutcomeLaws.{plain-call, save-stays}
-use Rattle.capi.specs.Crossing.{wellFormed, lent}
-use Rattle.capi.proofs.CardFor.{card-room}
-use Rattle.capi.proofs.CrossingFor.{no-card, saves-back}
+use Rattle.capi.proofs.CardFor.{Readable, readable, card-room}
+use Rattle.capi.proofs.CrossingFor.{stopped, saves-back}
 use borrow.Author.Needs.{needs}
 use Rattle.capi.proofs.images.musgarento_save.Statement.{statement}
 use Rattle.capi.proofs.images.musgarento_save.Tie as tie
 
--- what is played, as the test of the bytes finds it
-abbrev operation : tie.After-is-card → Operation
-operation c =
+-- what is called, as the test of the bytes finds it
+abbrev called : tie.After-unread → Call
+called c =
     let start = c .before .before .before .before .before in
-    call (save (now (start .args .out)))
+    save (now (start .args .out))
 
 returns : tie.Need-returns
-unfolding wellFormed lent
-returns c = no-card _ _ _ (operation (c .before)) refl _ (c .before .is-card .ensures) _ refl (c .if1 .taken)
+returns c = stopped _ _ _ (call (called (c .before))) _ (c .before .unread .ensures _) (c .if1 .taken)
+
+-- the bytes of the card that is read
+read : (c : tie.Else1) → Readable (now (c .before .before .before .before .before .before .args .card))
+read c = readable _ _ (c .before .unread .ensures) (c .if1 .left)
 
 card-of-requires : tie.Need-card-of-requires
-card-of-requires c κs = card-room _ _ (c .before .is-card .ensures) (c .if1 .left)
+card-of-requires c κs = card-room (read c)
+
+-- the lent bytes are bytes
+bytes : (c : tie.After-unread) → Bytes (now (c .before .before .before .before .before .args .card))
+bytes c i =
+    let at-known = c .before .before .before .before in
+    at-known .shared-slice-known .given i .fits
 
 returns-2 : tie.Need-returns-2
-unfolding wellFormed
 returns-2 c =
     let at-save = c .before .before .before in
     let at-card-of = at-save .before .before in
     let at-if1 = at-card-of .before in
-    let at-is-card = at-if1 .before in
-    let at-shared-slice-known = at-is-card .before .before .before .before in
-    saves-back _ _ _ (operation at-is-card) refl _ (at-is-card .is-card .ensures) (at-if1 .if1 .left) _ (at-card-of .card-of .ensures)
-    _ _ _ _ (at-save .save .ensures) _ (c .numbers-of .ensures) (λ i. (at-shared-slice-known .shared-slice-known .given) i .fits)
+    let at-unread = at-if1 .before in
+    let accepted = sym (at-unread .unread .ensures _) ∙ at-if1 .if1 .left in
+    saves-back _ _ _ (called at-unread) accepted _ (at-card-of .card-of .ensures) _ _ _ _
+    (at-save .save .ensures) _ (c .numbers-of .ensures) (bytes at-unread) (read at-if1)
     (plain-call _ _ refl refl) (save-stays _ _)
 
 pub musgarento-save-spec : {M : Type 1} → statement M
