@@ -266,9 +266,9 @@ fn without_a_size(given: &Given) -> Vec<Call> {
         .collect()
 }
 
-/// 0, and the number with one set bit cleared.
+/// 0, and the number with one set bit cleared, the highest first.
 fn simpler_numbers(number: u64) -> impl Iterator<Item = u64> {
-    let bits = (0..64).map(move |bit| number & !(1 << bit));
+    let bits = (0..64).rev().map(move |bit| number & !(1 << bit));
     std::iter::once(0)
         .chain(bits)
         .filter(move |&simpler| simpler != number)

@@ -2,10 +2,10 @@
 //! `include/musgarento.h` and with its parameters.
 //!
 //! A slice stands for a pointer and a length; slices of any length may be
-//! handed in. Each function returns 0 or the number of the refusal. Numbers are
-//! 64 bits wide, and a rule is applied to the whole number: a width of 260 is
-//! not a width of 4. [`Card`] is the interface to use; this one is for hosts
-//! that keep the bytes themselves, and for tests of the interface.
+//! handed in. Each function returns 0 or the number of the refusal. A number
+//! that a rule is about has 64 bits, and the rule is applied to all of them: a
+//! width of 260 is not a width of 4. [`Card`] is the interface to use; this one
+//! is for hosts that keep the bytes themselves, and for tests of the interface.
 //!
 //! [`Card`]: crate::Card
 #![allow(unsafe_code)]
