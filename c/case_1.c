@@ -42,7 +42,7 @@ static void start(void)
 }
 
 /* Writes a register; none of this case's writes sends anything. */
-static void write_config(uint16_t offset, uint8_t width, uint32_t value)
+static void write_config(uint64_t offset, uint64_t width, uint32_t value)
 {
     size_t count;
 

@@ -22,6 +22,10 @@
  * pending array or output, and sets value, count and answer to 0; only a start
  * that is refused with 10 to 17 leaves a card of 289 zeros.
  *
+ * A rule is about the whole number that is handed in, and no number is cut: a
+ * width of 260 is not a width of 4. Only a write's value may have bytes beyond
+ * the width, which are dropped.
+ *
  * No pointer may be null, not even one with a length of 0, and a buffer that
  * is written may not overlap another one.
  */
@@ -49,12 +53,13 @@ enum musgarento_refusal {
     MUSGARENTO_ACCEPTED = 0,
 
     /* Of every function. Another length than 289, 256 and 6 of card,
-       configuration or sizes, or a card whose flags byte has a bit above 1
-       set. Nothing changes, not even the card of a start. */
+       configuration or sizes. Nothing changes, not even the card of a
+       start. */
     MUSGARENTO_LENGTHS = 60,
 
     /* Of a running card: */
-    /* card not sound (all calls but start and restore) */
+    /* card not sound (all calls but start and restore); no card is sound
+       whose flags byte has another bit than bits 0 and 1 set */
     MUSGARENTO_NOT_SOUND = 1,
     /* event number E or more */
     MUSGARENTO_EVENT = 2,
@@ -85,7 +90,7 @@ enum musgarento_refusal {
     MUSGARENTO_REGION = 14,
     /* E not 1 to 2,048, or MSI-X present and N not E */
     MUSGARENTO_EVENTS = 15,
-    /* requester's low three bits not 0 */
+    /* requester's low three bits not 0, or requester above FFFFh */
     MUSGARENTO_REQUESTER = 16,
     /* table buffer not 16N bytes, or pending buffer not 8 x (N/64 rounded up)
        bytes; of a restore, checked last: lent buffers of other lengths */
@@ -118,7 +123,7 @@ enum musgarento_answer {
 uint8_t musgarento_start(uint8_t *card, size_t card_len,
                          const uint8_t *config, size_t config_len,
                          const uint32_t *sizes, size_t sizes_len,
-                         uint16_t events, uint16_t requester,
+                         uint64_t events, uint64_t requester,
                          uint8_t *table, size_t table_len,
                          uint8_t *pending, size_t pending_len);
 
@@ -127,7 +132,7 @@ uint8_t musgarento_start(uint8_t *card, size_t card_len,
 uint8_t musgarento_config_read(const uint8_t *card, size_t card_len,
                                const uint8_t *table, size_t table_len,
                                const uint8_t *pending, size_t pending_len,
-                               uint16_t offset, uint8_t width,
+                               uint64_t offset, uint64_t width,
                                uint32_t *value);
 
 /* Writes 1, 2 or 4 configuration bytes; count is the number of bytes of the
@@ -135,7 +140,8 @@ uint8_t musgarento_config_read(const uint8_t *card, size_t card_len,
 uint8_t musgarento_config_write(uint8_t *card, size_t card_len,
                                 const uint8_t *table, size_t table_len,
                                 uint8_t *pending, size_t pending_len,
-                                uint16_t offset, uint8_t width, uint32_t value,
+                                uint64_t offset, uint64_t width,
+                                uint32_t value,
                                 uint8_t *out, size_t out_len, size_t *count);
 
 /* Reads 4 or 8 bytes of the table or the pending array. Refusals: 60, 1, 4,
@@ -143,7 +149,7 @@ uint8_t musgarento_config_write(uint8_t *card, size_t card_len,
 uint8_t musgarento_bar_read(const uint8_t *card, size_t card_len,
                             const uint8_t *table, size_t table_len,
                             const uint8_t *pending, size_t pending_len,
-                            uint8_t bar, uint32_t offset, uint8_t width,
+                            uint64_t bar, uint64_t offset, uint64_t width,
                             uint64_t *value);
 
 /* Writes 4 or 8 bytes of the table; a write to the pending array is accepted
@@ -151,7 +157,7 @@ uint8_t musgarento_bar_read(const uint8_t *card, size_t card_len,
 uint8_t musgarento_bar_write(uint8_t *card, size_t card_len,
                              uint8_t *table, size_t table_len,
                              uint8_t *pending, size_t pending_len,
-                             uint8_t bar, uint32_t offset, uint8_t width,
+                             uint64_t bar, uint64_t offset, uint64_t width,
                              uint64_t value,
                              uint8_t *out, size_t out_len, size_t *count);
 
@@ -159,16 +165,16 @@ uint8_t musgarento_bar_write(uint8_t *card, size_t card_len,
 uint8_t musgarento_event(uint8_t *card, size_t card_len,
                          const uint8_t *table, size_t table_len,
                          uint8_t *pending, size_t pending_len,
-                         uint16_t number,
+                         uint64_t number,
                          uint8_t *out, size_t out_len,
                          uint8_t *answer, size_t *count);
 
-/* Sets the device's line: level 0 is low, anything else high. Refusals: 60, 1,
-   6. */
+/* Sets the device's line: level 0 is low, anything else high, 256 too.
+   Refusals: 60, 1, 6. */
 uint8_t musgarento_line(uint8_t *card, size_t card_len,
                         const uint8_t *table, size_t table_len,
                         const uint8_t *pending, size_t pending_len,
-                        uint8_t level,
+                        uint64_t level,
                         uint8_t *out, size_t out_len, size_t *count);
 
 /* Resets the card. Refusals: 60, 1, 6. */
@@ -184,8 +190,9 @@ uint8_t musgarento_save(const uint8_t *card, size_t card_len,
                         const uint8_t *pending, size_t pending_len,
                         uint8_t *out, size_t out_len, size_t *count);
 
-/* Restores card, table and pending array from an image; the card handed in
-   need not be sound. Sends nothing. Refusals: 60, 20, 21, 22, 17. */
+/* Restores card, table and pending array from an image. Sends nothing.
+   Refusals: 60, 20, 21, 22, 17. What the card's bytes were before does not
+   matter; a refused restore leaves every bit of them as it was. */
 uint8_t musgarento_restore(uint8_t *card, size_t card_len,
                            uint8_t *table, size_t table_len,
                            uint8_t *pending, size_t pending_len,

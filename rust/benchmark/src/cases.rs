@@ -119,13 +119,13 @@ fn config_read(state: &Second) -> (Calls, Calls) {
 }
 
 /// A configuration write on the proved card.
-fn proved_write(p: &mut Proved, offset: usize, width: u8, value: u32) -> u8 {
+fn proved_write(p: &mut Proved, offset: usize, width: u64, value: u32) -> u8 {
     let mut count = 0;
     let refusal = raw::config_write(
         &mut p.card,
         &p.table,
         &mut p.pending,
-        offset as u16,
+        offset as u64,
         width,
         value,
         &mut p.out,
@@ -136,12 +136,12 @@ fn proved_write(p: &mut Proved, offset: usize, width: u8, value: u32) -> u8 {
 }
 
 /// A configuration write on the second model.
-fn second_write(s: &mut Second, offset: usize, width: u8, value: u32) -> u8 {
+fn second_write(s: &mut Second, offset: usize, width: u64, value: u32) -> u8 {
     black_box(second_model::config_write(
         &mut s.card,
         &mut s.table,
         &mut s.pending,
-        offset as u16,
+        offset as u64,
         width,
         value,
         &mut s.out,
@@ -160,7 +160,7 @@ fn config_write(state: &Second) -> (Calls, Calls) {
 /// Reads half of the last table entry.
 fn bar_read(state: &Second, vectors: usize) -> (Calls, Calls) {
     let mut second = state.clone();
-    let offset = 16 * (vectors as u32 - 1);
+    let offset = 16 * (vectors as u64 - 1);
     let proved = repeat(second.proved(), move |p, _| {
         let mut value = 0;
         let refusal = raw::bar_read(
@@ -181,7 +181,7 @@ fn bar_read(state: &Second, vectors: usize) -> (Calls, Calls) {
 /// Writes the data word of the last table entry.
 fn bar_write(state: &Second, vectors: usize) -> (Calls, Calls) {
     let mut second = state.clone();
-    let offset = 16 * (vectors as u32 - 1) + 8;
+    let offset = 16 * (vectors as u64 - 1) + 8;
     let proved = repeat(second.proved(), move |p, i| {
         let mut count = 0;
         let refusal = raw::bar_write(
@@ -214,7 +214,7 @@ fn bar_write(state: &Second, vectors: usize) -> (Calls, Calls) {
     (proved, second)
 }
 
-fn event(state: &Second, number: u16) -> (Calls, Calls) {
+fn event(state: &Second, number: u64) -> (Calls, Calls) {
     let mut second = state.clone();
     let proved = repeat(second.proved(), move |p, _| {
         let (mut answer, mut count) = (0, 0);
@@ -248,7 +248,7 @@ fn line(state: &Second) -> (Calls, Calls) {
     let mut second = state.clone();
     let proved = repeat(second.proved(), |p, i| {
         let mut count = 0;
-        let level = (i & 1) as u8;
+        let level = i & 1;
         let refusal = raw::line(
             &mut p.card,
             &p.table,

@@ -4,7 +4,7 @@ use second_model::{Card, Outcome};
 
 pub const MSI: usize = 0x50;
 pub const MSIX: usize = 0x70;
-pub const TABLE_BAR: u8 = 0;
+pub const TABLE_BAR: u64 = 0;
 pub const PENDING_BAR: u8 = 1;
 /// The bytes of a card in the C interface.
 pub const CARD_BYTES: usize = 289;
@@ -14,8 +14,8 @@ pub const CARD_BYTES: usize = 289;
 pub struct Given {
     pub config: [u8; 256],
     pub sizes: [u32; 6],
-    pub events: u16,
-    pub requester: u16,
+    pub events: u64,
+    pub requester: u64,
     pub vectors: usize,
 }
 
@@ -33,13 +33,13 @@ impl Given {
             config[MSI + 1] = MSIX as u8;
             config[MSIX] = 0x11;
             config[MSIX + 2..MSIX + 4].copy_from_slice(&(vectors as u16 - 1).to_le_bytes());
-            config[MSIX + 4] = TABLE_BAR;
+            config[MSIX + 4] = TABLE_BAR as u8;
             config[MSIX + 8] = PENDING_BAR;
         }
         Given {
             config,
             sizes: [0x1_0000; 6],
-            events: vectors.max(1) as u16,
+            events: vectors.max(1) as u64,
             requester: 0x0100,
             vectors,
         }
@@ -97,7 +97,7 @@ impl Second {
             &mut self.card,
             &mut self.table,
             &mut self.pending,
-            offset as u16,
+            offset as u64,
             2,
             value,
             &mut self.out,
@@ -108,7 +108,7 @@ impl Second {
     pub fn unmask_all(&mut self, vectors: usize) {
         for vector in 0..vectors {
             for (word, value) in [(0, 0x1_FEE0_1000), (8, vector as u64)] {
-                let offset = (16 * vector + word) as u32;
+                let offset = (16 * vector + word) as u64;
                 accepted(second_model::bar_write(
                     &mut self.card,
                     &mut self.table,
@@ -124,12 +124,12 @@ impl Second {
     }
 
     /// A device event.
-    pub fn event(&mut self, number: usize) {
+    pub fn event(&mut self, number: u64) {
         accepted(second_model::event(
             &mut self.card,
             &mut self.table,
             &mut self.pending,
-            number as u16,
+            number,
             &mut self.out,
         ));
     }
@@ -180,7 +180,7 @@ impl States {
             waiting.write(MSI + 2, 1);
             waiting.write(0x04, 0x0002);
         }
-        for number in 0..usize::from(given.events) {
+        for number in 0..given.events {
             waiting.event(number);
         }
         States { open, waiting, pin }

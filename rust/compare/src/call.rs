@@ -7,27 +7,27 @@ use crate::world::Part;
 pub enum Call {
     Start(Given),
     ConfigRead {
-        offset: u16,
-        width: u8,
+        offset: u64,
+        width: u64,
     },
     ConfigWrite {
-        offset: u16,
-        width: u8,
+        offset: u64,
+        width: u64,
         value: u32,
     },
     BarRead {
-        bar: u8,
-        offset: u32,
-        width: u8,
+        bar: u64,
+        offset: u64,
+        width: u64,
     },
     BarWrite {
-        bar: u8,
-        offset: u32,
-        width: u8,
+        bar: u64,
+        offset: u64,
+        width: u64,
         value: u64,
     },
-    Event(u16),
-    Line(u8),
+    Event(u64),
+    Line(u64),
     Reset,
     /// The image is kept under this number.
     Save(usize),
@@ -39,8 +39,8 @@ pub enum Call {
 pub struct Given {
     pub config: Vec<u8>,
     pub sizes: Vec<u32>,
-    pub events: u16,
-    pub requester: u16,
+    pub events: u64,
+    pub requester: u64,
 }
 
 /// The image of a restore.

@@ -1,6 +1,7 @@
 //! Directed trials: the edges of each rule.
 
 mod damage;
+mod interface;
 mod interrupts;
 mod starts;
 
@@ -8,8 +9,10 @@ use crate::call::{Call, Damage, Given, Image, Room, Step};
 use crate::generate::start_steps;
 use crate::given::{PLAIN_PENDING, PLAIN_TABLE};
 use crate::layout::Place;
+use crate::pair::Pair;
 use crate::run::{Failure, Runner};
-use crate::world::{Part, ROOM};
+use crate::second;
+use crate::world::{Part, World, ROOM};
 
 /// The result of running trials.
 type Run = Result<(), Box<Failure>>;
@@ -18,7 +21,8 @@ type Run = Result<(), Box<Failure>>;
 pub fn run(runner: &mut Runner<'_>) -> Run {
     starts::run(runner)?;
     interrupts::run(runner)?;
-    damage::run(runner)
+    damage::run(runner)?;
+    interface::run(runner)
 }
 
 /// A trial that is being written.
@@ -52,12 +56,12 @@ impl Trial {
             .step(Step::Call(call, Room::Exact))
     }
 
-    fn write(&mut self, offset: usize, width: u8, value: u32) -> &mut Trial {
+    fn write(&mut self, offset: usize, width: u64, value: u32) -> &mut Trial {
         self.call(write(offset, width, value))
     }
 
-    fn read(&mut self, offset: usize, width: u8) -> &mut Trial {
-        let offset = offset as u16;
+    fn read(&mut self, offset: usize, width: u64) -> &mut Trial {
+        let offset = offset as u64;
         self.call(Call::ConfigRead { offset, width })
     }
 
@@ -70,7 +74,7 @@ impl Trial {
     }
 
     fn event(&mut self, number: usize) -> &mut Trial {
-        self.call(Call::Event(number as u16))
+        self.call(Call::Event(number as u64))
     }
 
     fn events(&mut self, numbers: &[usize]) -> &mut Trial {
@@ -80,18 +84,18 @@ impl Trial {
         self
     }
 
-    fn line(&mut self, level: u8) -> &mut Trial {
+    fn line(&mut self, level: u64) -> &mut Trial {
         self.call(Call::Line(level))
     }
 
     /// Writes a table entry of a plain card.
     fn entry(&mut self, vector: usize, upper: u32, data: u32, mask: bool) -> &mut Trial {
-        let offset = PLAIN_TABLE.offset + 16 * vector as u32;
+        let offset = 16 * vector as u32;
         let address = 0xFEE0_1000 + 4 * vector as u32;
         let low = u64::from(upper) << 32 | u64::from(address);
         let high = u64::from(mask) << 32 | u64::from(data);
-        self.call(bar_write(PLAIN_TABLE.bar, offset, 8, low))
-            .call(bar_write(PLAIN_TABLE.bar, offset + 8, 8, high))
+        self.call(bar_write(PLAIN_TABLE, offset, 8, low))
+            .call(bar_write(PLAIN_TABLE, offset + 8, 8, high))
     }
 
     /// Reads the first words of table and pending array of a plain card.
@@ -104,10 +108,12 @@ impl Trial {
         self
     }
 
-    fn bar_read(&mut self, place: Place, offset: u32, width: u8) -> &mut Trial {
-        let offset = place.offset.wrapping_add(offset);
-        let bar = place.bar;
-        self.call(Call::BarRead { bar, offset, width })
+    fn bar_read(&mut self, place: Place, offset: u32, width: u64) -> &mut Trial {
+        self.call(Call::BarRead {
+            bar: u64::from(place.bar),
+            offset: u64::from(place.offset.wrapping_add(offset)),
+            width,
+        })
     }
 
     fn byte(&mut self, part: Part, at: usize, value: u8) -> &mut Trial {
@@ -123,12 +129,32 @@ impl Trial {
         self.call(Call::Restore(image))
     }
 
+    /// Gives a part the contents that it has in a world.
+    fn put_back(&mut self, part: Part, world: &World) -> &mut Trial {
+        self.step(Step::Contents(part, world.part(part).clone()))
+    }
+
+    fn put_all_back(&mut self, world: &World) -> &mut Trial {
+        self.put_back(Part::Card, world)
+            .put_back(Part::Table, world)
+            .put_back(Part::Pending, world)
+    }
+
+    /// The second model's world at the end of the trial.
+    fn world(&self) -> World {
+        let mut pair = Pair::new(&second::apply);
+        for step in &self.0 {
+            let _ = pair.step(step);
+        }
+        pair.world().clone()
+    }
+
     /// Each call that an unsound card refuses, once.
     fn each_call(&mut self) -> &mut Trial {
         self.read(0x04, 4)
             .write(0x04, 2, 0x0006)
             .bar_read(PLAIN_TABLE, 0, 4)
-            .call(bar_write(PLAIN_TABLE.bar, PLAIN_TABLE.offset, 4, 0))
+            .call(bar_write(PLAIN_TABLE, 0, 4, 0))
             .event(0)
             .line(1)
             .call(Call::Reset)
@@ -141,18 +167,25 @@ impl Trial {
     }
 }
 
-fn write(offset: usize, width: u8, value: u32) -> Call {
+/// Numbers with one bit above bit 7 turned over, and with all bits from one on
+/// set.
+fn wider(number: u64) -> impl Iterator<Item = u64> {
+    (8..64).flat_map(move |bit| [number ^ 1 << bit, number | u64::MAX << bit])
+}
+
+fn write(offset: usize, width: u64, value: u32) -> Call {
     Call::ConfigWrite {
-        offset: offset as u16,
+        offset: offset as u64,
         width,
         value,
     }
 }
 
-fn bar_write(bar: u8, offset: u32, width: u8, value: u64) -> Call {
+/// Writes at an offset from a place.
+fn bar_write(place: Place, offset: u32, width: u64, value: u64) -> Call {
     Call::BarWrite {
-        bar,
-        offset,
+        bar: u64::from(place.bar),
+        offset: u64::from(place.offset.wrapping_add(offset)),
         width,
         value,
     }

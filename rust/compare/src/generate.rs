@@ -95,6 +95,7 @@ impl Generator {
             3 => self.foreign_steps(layout),
             4..=5 => self.save_steps(pair, layout),
             6 if self.random.once_in(4) => self.first(),
+            7 => self.flag_steps(pair, layout),
             _ => vec![self.call_step(pair, layout)],
         }
     }
@@ -106,7 +107,6 @@ impl Generator {
             .collect();
         if let (Some(number), true) = (self.kept(pair), self.random.once_in(2)) {
             steps.push(Step::Length(Part::Card, CARD_BYTES));
-            steps.push(Step::Byte(Part::Card, 0, 0));
             steps.extend(fitting(pair.image(number)));
             let image = Image::Kept(number, Vec::new());
             steps.push(Step::Call(Call::Restore(image), Room::Bytes(0)));
@@ -138,6 +138,44 @@ impl Generator {
             steps.extend(undo);
         }
         steps
+    }
+
+    /// Sets other flags than line and wire, makes a call of any kind, and mostly
+    /// puts the card back.
+    fn flag_steps(&mut self, pair: &Pair<'_>, layout: &Layout) -> Vec<Step> {
+        let card = &pair.world().card;
+        let mut steps = vec![Step::Byte(Part::Card, 0, card[0] | self.other_flags())];
+        if self.random.once_in(8) {
+            let length = near_length(&mut self.random, CARD_BYTES);
+            steps.push(Step::Length(Part::Card, length));
+        }
+        match self.random.below(10) {
+            0 => {
+                let mut given = valid(&mut self.random);
+                if self.random.once_in(2) {
+                    spoil(&mut self.random, &mut given);
+                }
+                steps.push(Step::Call(Call::Start(given), Room::Bytes(0)));
+            }
+            1..=2 => {
+                let image = self.image(pair, layout);
+                steps.push(Step::Call(Call::Restore(image), Room::Bytes(0)));
+            }
+            3 => steps.push(Step::Call(Call::Reset, Room::Exact)),
+            4 => steps.push(Step::Call(Call::Save(0), Room::Bytes(ROOM))),
+            _ => steps.push(self.call_step(pair, layout)),
+        }
+        if !self.random.once_in(4) {
+            steps.push(Step::Contents(Part::Card, card.clone()));
+        }
+        steps
+    }
+
+    /// One or more flags other than line and wire.
+    fn other_flags(&mut self) -> u8 {
+        let bit = 4 << self.random.below(6);
+        let more = self.random.number() as u8 & !3;
+        self.random.pick(&[bit, bit | more])
     }
 
     /// The part to damage.
@@ -176,7 +214,7 @@ impl Generator {
         let Some(msix) = layout.msix else {
             return vec![config_write(0x04, 2, 2), line(1)];
         };
-        let control = (msix.at + 2) as u16;
+        let control = msix.at as u64 + 2;
         let mut steps = vec![
             config_write(0x04, 2, random.pick(&[2, 6])),
             config_write(control, 2, random.pick(&[0xC000, 0x4000])),
@@ -299,15 +337,7 @@ impl Generator {
                 let (offset, width) = self.config_place(layout);
                 Call::ConfigRead { offset, width }
             }
-            6..=13 => {
-                let (offset, width) = self.config_place(layout);
-                let value = self.value() as u32;
-                Call::ConfigWrite {
-                    offset,
-                    width,
-                    value,
-                }
-            }
+            6..=13 => self.config_write(layout),
             14..=18 => Call::ConfigWrite {
                 offset: 0x04,
                 width: 2,
@@ -318,22 +348,39 @@ impl Generator {
                 let (bar, offset, width) = self.bar_place(layout);
                 Call::BarRead { bar, offset, width }
             }
-            30..=46 => {
-                let (bar, offset, width) = self.bar_place(layout);
-                let value = self.value();
-                Call::BarWrite {
-                    bar,
-                    offset,
-                    width,
-                    value,
-                }
-            }
+            30..=46 => self.bar_write(layout),
             47..=70 => self.event(pair.world(), layout),
-            71..=75 => Call::Line(self.random.pick(&[0, 1, 1, 2, 0x80, 0xFF])),
+            71..=75 => {
+                let wider = self.random.wider(0);
+                Call::Line(self.random.pick(&[0, 0, 1, 1, 2, 0x80, 0xFF, wider]))
+            }
             76 => Call::Save(self.random.below(SLOTS)),
             77 => Call::Restore(self.image(pair, layout)),
             _ if self.random.once_in(4) => Call::Reset,
-            _ => Call::Event(self.random.number() as u16),
+            _ => Call::Event(self.random.number() & self.random.pick(&[0xFFFF, u64::MAX])),
+        }
+    }
+
+    /// A configuration write of any place and value.
+    fn config_write(&mut self, layout: &Layout) -> Call {
+        let (offset, width) = self.config_place(layout);
+        let value = self.value() as u32;
+        Call::ConfigWrite {
+            offset,
+            width,
+            value,
+        }
+    }
+
+    /// A BAR write of any place and value.
+    fn bar_write(&mut self, layout: &Layout) -> Call {
+        let (bar, offset, width) = self.bar_place(layout);
+        let value = self.value();
+        Call::BarWrite {
+            bar,
+            offset,
+            width,
+            value,
         }
     }
 
@@ -351,7 +398,7 @@ impl Generator {
         let events = usize::from(layout.events);
         let random = &mut self.random;
         let number = match random.below(8) {
-            0 => random.pick(&[events.wrapping_sub(1), events, events + 1]),
+            0 => random.pick(&[events.saturating_sub(1), events, events + 1]),
             1..=2 => random.below(4),
             3 if !world.pending.is_empty() => {
                 let byte = random.below(world.pending.len());
@@ -359,7 +406,10 @@ impl Generator {
             }
             _ => random.below(events.max(1)),
         };
-        Call::Event(number as u16)
+        Call::Event(match random.once_in(32) {
+            true => random.wider(number as u64),
+            false => number as u64,
+        })
     }
 
     /// Switches MSI or MSI-X, if the card has it.
@@ -374,7 +424,7 @@ impl Generator {
         };
         match wanted {
             Some((at, value)) => Call::ConfigWrite {
-                offset: at as u16,
+                offset: at as u64,
                 width: 2,
                 value: value as u32,
             },
@@ -383,7 +433,7 @@ impl Generator {
     }
 
     /// The offset and width of a configuration access.
-    fn config_place(&mut self, layout: &Layout) -> (u16, u8) {
+    fn config_place(&mut self, layout: &Layout) -> (u64, u64) {
         let random = &mut self.random;
         let width = random.pick(&[1, 2, 4, 4]);
         let offset = match (random.below(10), layout.msi, layout.msix) {
@@ -399,18 +449,21 @@ impl Generator {
             }
             (_, None, None) => 4 * random.below(64),
         };
-        if random.once_in(16) {
-            return (random.number() as u16 & 0x3FF, random.below(10) as u8);
+        let offset = offset as u64 & !(width - 1);
+        match random.below(32) {
+            0..=1 => (random.below(0x400) as u64, random.below(10) as u64),
+            2 => (random.wider(offset), width),
+            3 => (offset, random.wider(width)),
+            _ => (offset, width),
         }
-        (offset as u16 & !(u16::from(width) - 1), width)
     }
 
     /// The place and width of a BAR access.
-    fn bar_place(&mut self, layout: &Layout) -> (u8, u32, u8) {
+    fn bar_place(&mut self, layout: &Layout) -> (u64, u64, u64) {
         let random = &mut self.random;
         let width = random.pick(&[4, 4, 8]);
         let Some(msix) = layout.msix else {
-            return (random.below(7) as u8, 8 * random.below(64) as u32, width);
+            return (random.below(7) as u64, 8 * random.below(64) as u64, width);
         };
         let behind = usize::from(random.once_in(16));
         let entry = 16 * random.below(layout.vectors() + behind) as u32;
@@ -420,17 +473,18 @@ impl Generator {
             1 => (msix.table, random.below(64) as u32),
             2 => (msix.pending, random.number() as u32),
             3 => (msix.table, (random.below(16) as u32).wrapping_sub(8)),
-            _ => (msix.table, (entry + word) & !(u32::from(width) - 1)),
+            _ => (msix.table, (entry + word) & !(width as u32 - 1)),
         };
-        let bar = match random.once_in(40) {
-            true => random.below(9) as u8,
-            false => place.bar,
-        };
-        let width = match random.once_in(40) {
-            true => random.below(17) as u8,
-            false => width,
-        };
-        (bar, place.offset.wrapping_add(offset), width)
+        let bar = u64::from(place.bar);
+        let offset = u64::from(place.offset.wrapping_add(offset));
+        match random.below(80) {
+            0..=1 => (random.below(9) as u64, offset, width),
+            2..=3 => (bar, offset, random.below(17) as u64),
+            4..=5 => (random.wider(bar), offset, width),
+            6..=7 => (bar, random.wider(offset), width),
+            8..=9 => (bar, offset, random.wider(width)),
+            _ => (bar, offset, width),
+        }
     }
 
     /// An image to restore.
@@ -470,7 +524,7 @@ fn damaged_card_byte(random: &mut Random, layout: &Layout) -> usize {
 }
 
 /// A configuration write with enough room for one packet of the wire.
-fn config_write(offset: u16, width: u8, value: u32) -> Step {
+fn config_write(offset: u64, width: u64, value: u32) -> Step {
     let call = Call::ConfigWrite {
         offset,
         width,
@@ -480,7 +534,7 @@ fn config_write(offset: u16, width: u8, value: u32) -> Step {
 }
 
 /// A line call.
-fn line(level: u8) -> Step {
+fn line(level: u64) -> Step {
     Step::Call(Call::Line(level), Room::Bytes(ROOM))
 }
 
@@ -518,19 +572,19 @@ fn foreign_image(random: &mut Random) -> Vec<u8> {
     let mut calls = vec![Call::Start(given)];
     if let Some(msi) = layout.msi {
         calls.push(Call::ConfigWrite {
-            offset: msi.at as u16 + 2,
+            offset: msi.at as u64 + 2,
             width: 2,
             value: 1 | (random.below(8) as u32) << 4,
         });
     }
     if let (Some(msix), true) = (layout.msix, random.once_in(2)) {
         calls.push(Call::ConfigWrite {
-            offset: msix.at as u16 + 2,
+            offset: msix.at as u64 + 2,
             width: 2,
             value: 0x8000,
         });
     }
-    calls.extend((0..4).map(|_| Call::Event(random.below(4) as u16)));
+    calls.extend((0..4).map(|_| Call::Event(random.below(4) as u64)));
     calls.push(Call::Line(1));
     calls.push(Call::Save(0));
     let mut count = 0;

@@ -81,7 +81,7 @@ pub fn plain(pin: u8, msi: Option<u16>, vectors: Option<usize>) -> Given {
     Given {
         config,
         sizes: vec![0x10_0000; 6],
-        events: vectors.unwrap_or(32) as u16,
+        events: vectors.unwrap_or(32) as u64,
         requester: 0x0100,
     }
 }
@@ -103,7 +103,7 @@ pub fn valid(random: &mut Random) -> Given {
         config: vec![0; 256],
         sizes: vec![0; 6],
         events: random.pick(&[1, 2, 3, 8, 33, 100, 2048]),
-        requester: random.number() as u16 & !7,
+        requester: random.number() & 0xFFF8,
     };
     if random.once_in(2) {
         given.config = random.bytes(256);
@@ -177,7 +177,7 @@ fn put_random_msix(random: &mut Random, given: &mut Given, at: usize) {
     let reserved = given.config[at + 3] & 0xF8;
     put_msix(&mut given.config, at, vectors, table, pending);
     given.config[at + 3] |= reserved;
-    given.events = vectors as u16;
+    given.events = vectors as u64;
     let table_end = table.offset + table_bytes(vectors) as u32;
     let pending_end = pending.offset + pending_bytes(vectors) as u32;
     let mut needed = [0; 6];
@@ -242,11 +242,15 @@ fn spoil_once(random: &mut Random, given: &mut Given) {
         }
         8 | 9 => spoil_regions(random, given, &layout),
         10 => {
-            let events = given.events;
-            let near = random.pick(&[events.wrapping_sub(1), events.wrapping_add(1)]);
-            given.events = random.pick(&[0, near, 2049, u16::MAX]);
+            let events = given.events & 0xFFFF;
+            let (less, wider) = (events.saturating_sub(1), random.wider(events));
+            given.events = random.pick(&[0, less, events + 1, 2049, 0xFFFF, wider, wider]);
         }
-        _ => given.requester |= random.below(8) as u16,
+        _ => {
+            let requester = given.requester & 0xFFFF;
+            let (function, wider) = (random.below(8) as u64, random.wider(requester));
+            given.requester = random.pick(&[requester | function, wider]);
+        }
     }
 }
 
@@ -323,7 +327,7 @@ pub fn arbitrary(random: &mut Random) -> Given {
     Given {
         config,
         sizes: (0..6).map(|_| random.number() as u32).collect(),
-        events: random.number() as u16 & large,
-        requester: random.number() as u16 & function,
+        events: random.number() & large,
+        requester: random.number() & function,
     }
 }

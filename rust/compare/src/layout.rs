@@ -53,6 +53,13 @@ impl MsiX {
     pub fn vectors(&self) -> usize {
         usize::from(self.control & 0x7FF) + 1
     }
+
+    /// Whether a byte of a BAR lies in the table.
+    pub fn in_table(&self, bar: u64, offset: u64) -> bool {
+        let start = u64::from(self.table.offset);
+        let end = start + table_bytes(self.vectors()) as u64;
+        bar == u64::from(self.table.bar) && (start..end).contains(&offset)
+    }
 }
 
 /// The capabilities of a card, and its number of events.

@@ -18,4 +18,5 @@ pub mod run;
 pub mod second;
 pub mod shrink;
 pub mod statistics;
+pub mod wide;
 pub mod world;

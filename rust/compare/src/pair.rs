@@ -3,7 +3,7 @@
 
 use crate::call::{Call, Damage, Image, Outcome, Room, Step};
 use crate::second;
-use crate::world::{card_byte_name, Part, World, ROOM};
+use crate::world::{card_byte_name, other_flags, Part, World, ROOM};
 use std::collections::BTreeMap;
 
 /// A model under comparison: makes a call on a world.
@@ -28,6 +28,8 @@ pub struct Made<'a> {
     pub outcome: Outcome,
     pub out: &'a [u8],
     pub card: &'a [u8],
+    /// The flags of the card before the call, besides line and wire.
+    pub other_flags: u8,
 }
 
 impl<'a> Pair<'a> {
@@ -73,6 +75,7 @@ impl<'a> Pair<'a> {
     fn call<'b>(&'b mut self, call: &'b Call, room: Room) -> Result<Made<'b>, Difference> {
         let image = self.image_of(call);
         let length = self.output_length(call, room, &image);
+        let other_flags = other_flags(&self.second.card);
         self.tested.lend_output(length);
         self.second.lend_output(length);
         let tested = (self.model)(&mut self.tested, call, &image);
@@ -88,6 +91,7 @@ impl<'a> Pair<'a> {
             outcome,
             out: &self.second.out,
             card: &self.second.card,
+            other_flags,
         })
     }
 

@@ -67,27 +67,48 @@ fn step_text(step: &Step, pair: &Pair<'_>) -> String {
 fn call_text(call: &Call) -> String {
     match call {
         Call::Start(given) => start_text(given),
-        Call::ConfigRead { offset, width } => format!("config read {offset:02X}h, width {width}"),
-        Call::ConfigWrite {
+        &Call::ConfigRead { offset, width } => {
+            format!("config read {offset:02X}h, width {}", number_text(width))
+        }
+        &Call::ConfigWrite {
             offset,
             width,
             value,
-        } => format!("config write {offset:02X}h, width {width}, value {value:X}h"),
-        Call::BarRead { bar, offset, width } => {
-            format!("BAR read, BAR {bar}, offset {offset:X}h, width {width}")
+        } => {
+            let width = number_text(width);
+            format!("config write {offset:02X}h, width {width}, value {value:X}h")
         }
-        Call::BarWrite {
+        &Call::BarRead { bar, offset, width } => {
+            format!("BAR read, {}", place_text(bar, offset, width))
+        }
+        &Call::BarWrite {
             bar,
             offset,
             width,
             value,
-        } => format!("BAR write, BAR {bar}, offset {offset:X}h, width {width}, value {value:X}h"),
-        Call::Event(number) => format!("event {number}"),
-        Call::Line(level) => format!("line {level}"),
+        } => {
+            let place = place_text(bar, offset, width);
+            format!("BAR write, {place}, value {value:X}h")
+        }
+        &Call::Event(number) => format!("event {}", number_text(number)),
+        &Call::Line(level) => format!("line {}", number_text(level)),
         Call::Reset => "reset".to_string(),
         Call::Save(number) => format!("save as image {number}"),
         Call::Restore(image) => image_text(image),
     }
+}
+
+/// A number that is mostly small: decimal up to 16 bits, hexadecimal above.
+fn number_text(number: u64) -> String {
+    match number {
+        0..=0xFFFF => number.to_string(),
+        _ => format!("{number:X}h"),
+    }
+}
+
+fn place_text(bar: u64, offset: u64, width: u64) -> String {
+    let (bar, width) = (number_text(bar), number_text(width));
+    format!("BAR {bar}, offset {offset:X}h, width {width}")
 }
 
 fn start_text(given: &Given) -> String {
@@ -98,7 +119,7 @@ fn start_text(given: &Given) -> String {
         .collect();
     format!(
         "start, E {}, requester {:04X}h, sizes {}, configuration of {} bytes, {}",
-        given.events,
+        number_text(given.events),
         given.requester,
         sizes.join(" "),
         given.config.len(),

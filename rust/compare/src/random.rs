@@ -41,6 +41,15 @@ impl Random {
         from[self.below(from.len())]
     }
 
+    /// A number wider than 8, 16 or 32 bits that a cut to that many bits makes
+    /// `number`, which is below 2^32.
+    pub fn wider(&mut self, number: u64) -> u64 {
+        let mut cuts = vec![8, 16, 32];
+        cuts.retain(|&bits| bits == 32 || number >> bits == 0);
+        let any = self.number() | 1;
+        number | self.pick(&[1, any, u64::MAX]) << self.pick(&cuts)
+    }
+
     /// Random bytes.
     pub fn bytes(&mut self, count: usize) -> Vec<u8> {
         (0..count).map(|_| self.number() as u8).collect()

@@ -1,19 +1,15 @@
 //! The second model behind the same interface of bytes.
 
 use crate::call::{Call, Given, Outcome};
-use crate::world::{World, CARD_BYTES, CONFIG_AT, SIZES_AT};
+use crate::world::{other_flags, World, CARD_BYTES, CONFIG_AT, SIZES_AT};
 use second_model::{Answer, Card};
 
-/// The number for wrong lengths of card, configuration or sizes, and for a
-/// card with other flags than line and wire.
+/// The number for wrong lengths of card, configuration or sizes.
 const LENGTHS: u8 = 60;
 
-/// The flags that a card has: line and wire.
-const FLAGS: u8 = 3;
-
-/// The card in these bytes; `None` if they are not the bytes of a card.
+/// The card in these bytes; `None` if a card has another number of bytes.
 fn read_card(bytes: &[u8]) -> Option<Card> {
-    if bytes.len() != CARD_BYTES || bytes[0] & !FLAGS != 0 {
+    if bytes.len() != CARD_BYTES {
         return None;
     }
     let half = |at: usize| u16::from_le_bytes([bytes[at], bytes[at + 1]]);
@@ -25,13 +21,14 @@ fn read_card(bytes: &[u8]) -> Option<Card> {
         requester: half(3),
         line: bytes[0] & 1 != 0,
         wire: bytes[0] & 2 != 0,
+        other_flags: other_flags(bytes),
         msi_waiting: word(5),
     })
 }
 
 /// Writes the bytes of a card.
 fn write_card(card: &Card, bytes: &mut [u8]) {
-    bytes[0] = u8::from(card.line) | u8::from(card.wire) << 1;
+    bytes[0] = u8::from(card.line) | u8::from(card.wire) << 1 | card.other_flags;
     bytes[1..3].copy_from_slice(&card.events.to_le_bytes());
     bytes[3..5].copy_from_slice(&card.requester.to_le_bytes());
     bytes[5..9].copy_from_slice(&card.msi_waiting.to_le_bytes());
@@ -60,7 +57,7 @@ pub fn apply(world: &mut World, call: &Call, image: &[u8]) -> Outcome {
     outcome(call, result.refusal, Some(result))
 }
 
-/// A start takes any card of the right length, with any flags.
+/// A start takes any card of the right length.
 fn start(world: &mut World, given: &Given) -> Outcome {
     let config = <&[u8; 256]>::try_from(&given.config[..]);
     let sizes = <&[u32; 6]>::try_from(&given.sizes[..]);
@@ -112,6 +109,7 @@ fn apply_to_card(
             value,
         } => second_model::bar_write(card, table, pending, bar, offset, width, value, out),
         Call::Event(number) => second_model::event(card, table, pending, number, out),
+        // C interface: 0 is low, anything else high.
         Call::Line(level) => second_model::line(card, table, pending, level != 0, out),
         Call::Reset => second_model::reset(card, table, pending, out),
         Call::Save(_) => second_model::save(card, table, pending, out),

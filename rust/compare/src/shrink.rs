@@ -1,6 +1,6 @@
 //! Cuts a failing trial down to a short one that still fails.
 
-use crate::call::{Call, Image, Room, Step};
+use crate::call::{Call, Given, Image, Room, Step};
 use crate::pair::{Difference, Model, Pair};
 use crate::world::Part;
 use std::time::{Duration, Instant};
@@ -203,53 +203,72 @@ fn simpler(step: &Step) -> Vec<Step> {
 }
 
 fn simpler_calls(call: &Call) -> Vec<Call> {
+    let mut calls = Vec::new();
+    for at in 0..numbers(&mut call.clone()).len() {
+        let number = *numbers(&mut call.clone())[at];
+        calls.extend(simpler_numbers(number).map(|simpler| {
+            let mut call = call.clone();
+            *numbers(&mut call)[at] = simpler;
+            call
+        }));
+    }
     match call {
-        Call::Start(given) => (0..given.sizes.len())
-            .filter(|&bar| given.sizes[bar] != 0)
-            .map(|bar| {
-                let mut given = given.clone();
-                given.sizes[bar] = 0;
-                Call::Start(given)
-            })
-            .collect(),
+        Call::Start(given) => calls.extend(without_a_size(given)),
         &Call::ConfigWrite {
             offset,
             width,
             value,
-        } => simpler_numbers(u64::from(value))
-            .map(|value| Call::ConfigWrite {
+        } => calls.extend(
+            simpler_numbers(u64::from(value)).map(|value| Call::ConfigWrite {
                 offset,
                 width,
                 value: value as u32,
-            })
-            .collect(),
-        &Call::BarWrite {
+            }),
+        ),
+        Call::Restore(Image::Kept(number, damage)) => calls.extend((0..damage.len()).map(|at| {
+            let mut damage = damage.clone();
+            damage.remove(at);
+            Call::Restore(Image::Kept(*number, damage))
+        })),
+        _ => {}
+    }
+    calls
+}
+
+/// The numbers of 64 bits in a call's arguments.
+fn numbers(call: &mut Call) -> Vec<&mut u64> {
+    match call {
+        Call::Start(given) => vec![&mut given.events, &mut given.requester],
+        Call::ConfigRead { offset, width } | Call::ConfigWrite { offset, width, .. } => {
+            vec![offset, width]
+        }
+        Call::BarRead { bar, offset, width } => vec![bar, offset, width],
+        Call::BarWrite {
             bar,
             offset,
             width,
             value,
-        } => simpler_numbers(value)
-            .map(|value| Call::BarWrite {
-                bar,
-                offset,
-                width,
-                value,
-            })
-            .collect(),
-        Call::Restore(Image::Kept(number, damage)) => (0..damage.len())
-            .map(|at| {
-                let mut damage = damage.clone();
-                damage.remove(at);
-                Call::Restore(Image::Kept(*number, damage))
-            })
-            .collect(),
-        _ => Vec::new(),
+        } => vec![bar, offset, width, value],
+        Call::Event(number) | Call::Line(number) => vec![number],
+        Call::Reset | Call::Save(_) | Call::Restore(_) => Vec::new(),
     }
 }
 
-/// 0, and the number with one set bit cleared.
+/// Starts with one size made 0.
+fn without_a_size(given: &Given) -> Vec<Call> {
+    (0..given.sizes.len())
+        .filter(|&bar| given.sizes[bar] != 0)
+        .map(|bar| {
+            let mut given = given.clone();
+            given.sizes[bar] = 0;
+            Call::Start(given)
+        })
+        .collect()
+}
+
+/// 0, and the number with one set bit cleared, the highest first.
 fn simpler_numbers(number: u64) -> impl Iterator<Item = u64> {
-    let bits = (0..64).map(move |bit| number & !(1 << bit));
+    let bits = (0..64).rev().map(move |bit| number & !(1 << bit));
     std::iter::once(0)
         .chain(bits)
         .filter(move |&simpler| simpler != number)

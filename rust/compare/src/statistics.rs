@@ -3,6 +3,7 @@
 use crate::call::{Call, Image, Room, KINDS};
 use crate::layout::{Layout, Mode};
 use crate::pair::Made;
+use crate::wide;
 use crate::world::ROOM;
 use musgarento::{Packet, Packets};
 use std::collections::BTreeMap;
@@ -22,8 +23,22 @@ const POSSIBLE: [&[u8]; 10] = [
     &[0, 17, 20, 21, 22, 60],
 ];
 
+/// The same on a card with other flags than line and wire.
+const POSSIBLE_WITH_FLAGS: [&[u8]; 10] = [
+    &[0, 10, 11, 12, 13, 14, 15, 16, 17, 60],
+    &[1, 60],
+    &[1, 60],
+    &[1, 60],
+    &[1, 60],
+    &[1, 60],
+    &[1, 60],
+    &[1, 60],
+    &[1, 60],
+    &[0, 17, 20, 21, 22, 60],
+];
+
 /// Other things that a run should meet.
-const NAMED: [&str; 37] = [
+const NAMED: [&str; 46] = [
     "MSI 32-bit started",
     "MSI 64-bit started",
     "MSI 32-bit, masks started",
@@ -61,25 +76,41 @@ const NAMED: [&str; 37] = [
     "damaged image restored",
     "foreign image restored",
     "damaged image refused",
+    "E wider than 16 bits refused",
+    "requester wider than 16 bits refused",
+    "config width wider than 8 bits refused",
+    "config offset wider than 16 bits refused",
+    "BAR wider than 8 bits refused",
+    "BAR offset wider than 32 bits refused",
+    "BAR width wider than 8 bits refused",
+    "event wider than 16 bits refused",
+    "level 256, or a multiple of it, is high",
 ];
+
+/// Numbers of calls, of each kind by refusal.
+type Refusals = [BTreeMap<u8, u64>; 10];
 
 /// The counts of a run.
 #[derive(Clone, Debug, Default)]
 pub struct Statistics {
     pub calls: u64,
     pub trials: u64,
-    refusals: [BTreeMap<u8, u64>; 10],
+    refusals: Refusals,
+    /// Those on a card with other flags than line and wire.
+    with_flags: Refusals,
     named: BTreeMap<&'static str, u64>,
 }
 
 impl Statistics {
     /// Counts a call.
     pub fn count(&mut self, made: &Made<'_>) {
+        let (kind, refusal) = (made.call.kind(), made.outcome.refusal);
         self.calls += 1;
-        *self.refusals[made.call.kind()]
-            .entry(made.outcome.refusal)
-            .or_default() += 1;
-        let accepted = made.outcome.refusal == 0;
+        *self.refusals[kind].entry(refusal).or_default() += 1;
+        if made.other_flags != 0 {
+            *self.with_flags[kind].entry(refusal).or_default() += 1;
+        }
+        let accepted = refusal == 0;
         match made.call {
             Call::Start(_) if accepted => self.count_start(&Layout::of_card(made.card)),
             Call::Restore(image) => self.count_restore(image, accepted),
@@ -88,6 +119,9 @@ impl Statistics {
         }
         if made.call.has_output() {
             self.count_output(made);
+        }
+        if let Some(name) = wide::met(made) {
+            self.met(name);
         }
     }
 
@@ -198,14 +232,9 @@ impl Statistics {
 
     /// The things that a run should meet and this one did not.
     pub fn not_met(&self) -> Vec<String> {
-        let mut missing = Vec::new();
-        for (kind, numbers) in POSSIBLE.iter().enumerate() {
-            for number in *numbers {
-                if !self.refusals[kind].contains_key(number) {
-                    missing.push(format!("{} with {number}", KINDS[kind]));
-                }
-            }
-        }
+        let mut missing = not_met_of("", &POSSIBLE, &self.refusals);
+        let which = " over other flags";
+        missing.extend(not_met_of(which, &POSSIBLE_WITH_FLAGS, &self.with_flags));
         let unmet = NAMED.iter().filter(|name| !self.named.contains_key(*name));
         missing.extend(unmet.map(|name| name.to_string()));
         missing
@@ -214,17 +243,9 @@ impl Statistics {
     /// The counts as text.
     pub fn text(&self) -> String {
         let mut text = format!("{} calls in {} trials\n\n", self.calls, self.trials);
-        text += "| Call | Accepted | Refused, by number |\n|---|---:|---|\n";
-        for (kind, name) in KINDS.iter().enumerate() {
-            let accepted = self.refusals[kind].get(&0).copied().unwrap_or(0);
-            let refused: Vec<String> = self.refusals[kind]
-                .iter()
-                .filter(|(&number, _)| number != 0)
-                .map(|(number, count)| format!("{number}: {count}"))
-                .collect();
-            text += &format!("| {name} | {accepted} | {} |\n", refused.join(", "));
-        }
-        text += "\n| Met | Times |\n|---|---:|\n";
+        text += &calls_text("Call", &self.refusals);
+        text += &calls_text("Call over other flags", &self.with_flags);
+        text += "| Met | Times |\n|---|---:|\n";
         for name in NAMED {
             let count = self.named.get(name).copied().unwrap_or(0);
             text += &format!("| {name} | {count} |\n");
@@ -238,4 +259,32 @@ impl Statistics {
         text += &format!("\nNot met: {missing}\n");
         text
     }
+}
+
+/// The refusals that calls should meet and did not.
+fn not_met_of(which: &str, possible: &[&[u8]; 10], refusals: &Refusals) -> Vec<String> {
+    let mut missing = Vec::new();
+    for (kind, numbers) in possible.iter().enumerate() {
+        for number in *numbers {
+            if !refusals[kind].contains_key(number) {
+                missing.push(format!("{}{which} with {number}", KINDS[kind]));
+            }
+        }
+    }
+    missing
+}
+
+/// Numbers of calls as a table.
+fn calls_text(title: &str, refusals: &Refusals) -> String {
+    let mut text = format!("| {title} | Accepted | Refused, by number |\n|---|---:|---|\n");
+    for (kind, name) in KINDS.iter().enumerate() {
+        let accepted = refusals[kind].get(&0).copied().unwrap_or(0);
+        let refused: Vec<String> = refusals[kind]
+            .iter()
+            .filter(|(&number, _)| number != 0)
+            .map(|(number, count)| format!("{number}: {count}"))
+            .collect();
+        text += &format!("| {name} | {accepted} | {} |\n", refused.join(", "));
+    }
+    text + "\n"
 }

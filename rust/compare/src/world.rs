@@ -64,6 +64,11 @@ impl World {
     }
 }
 
+/// The flags of a card besides line and wire.
+pub fn other_flags(card: &[u8]) -> u8 {
+    card.first().map_or(0, |flags| flags & !3)
+}
+
 /// What is written at a byte of the card, for a person.
 pub fn card_byte_name(at: usize) -> String {
     match at {

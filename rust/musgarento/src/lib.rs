@@ -37,6 +37,10 @@
 //! }
 //! ```
 //!
+//! The types of the arguments leave out only numbers that the rules refuse. A
+//! host that has wider ones converts them with `try_from`, since `as` would cut
+//! them, or calls the functions of [`raw`], which take 64 bits.
+//!
 //! The model itself is the static library `capi`, proved in Rattle; this crate
 //! only lends it buffers and names its numbers.
 

@@ -2,9 +2,10 @@
 //! `include/musgarento.h` and with its parameters.
 //!
 //! A slice stands for a pointer and a length; slices of any length may be
-//! handed in. Each function returns 0 or the number of the refusal. [`Card`]
-//! is the interface to use; this one is for hosts that keep the bytes
-//! themselves, and for tests of the interface.
+//! handed in. Each function returns 0 or the number of the refusal. A number
+//! that a rule is about has 64 bits, and the rule is applied to all of them: a
+//! width of 260 is not a width of 4. [`Card`] is the interface to use; this one
+//! is for hosts that keep the bytes themselves, and for tests of the interface.
 //!
 //! [`Card`]: crate::Card
 #![allow(unsafe_code)]
@@ -19,8 +20,8 @@ mod c {
             config_len: usize,
             sizes: *const u32,
             sizes_len: usize,
-            events: u16,
-            requester: u16,
+            events: u64,
+            requester: u64,
             table: *mut u8,
             table_len: usize,
             pending: *mut u8,
@@ -33,8 +34,8 @@ mod c {
             table_len: usize,
             pending: *const u8,
             pending_len: usize,
-            offset: u16,
-            width: u8,
+            offset: u64,
+            width: u64,
             value: *mut u32,
         ) -> u8;
         pub fn musgarento_config_write(
@@ -44,8 +45,8 @@ mod c {
             table_len: usize,
             pending: *mut u8,
             pending_len: usize,
-            offset: u16,
-            width: u8,
+            offset: u64,
+            width: u64,
             value: u32,
             out: *mut u8,
             out_len: usize,
@@ -58,9 +59,9 @@ mod c {
             table_len: usize,
             pending: *const u8,
             pending_len: usize,
-            bar: u8,
-            offset: u32,
-            width: u8,
+            bar: u64,
+            offset: u64,
+            width: u64,
             value: *mut u64,
         ) -> u8;
         pub fn musgarento_bar_write(
@@ -70,9 +71,9 @@ mod c {
             table_len: usize,
             pending: *mut u8,
             pending_len: usize,
-            bar: u8,
-            offset: u32,
-            width: u8,
+            bar: u64,
+            offset: u64,
+            width: u64,
             value: u64,
             out: *mut u8,
             out_len: usize,
@@ -85,7 +86,7 @@ mod c {
             table_len: usize,
             pending: *mut u8,
             pending_len: usize,
-            number: u16,
+            number: u64,
             out: *mut u8,
             out_len: usize,
             answer: *mut u8,
@@ -98,7 +99,7 @@ mod c {
             table_len: usize,
             pending: *const u8,
             pending_len: usize,
-            level: u8,
+            level: u64,
             out: *mut u8,
             out_len: usize,
             count: *mut usize,
@@ -148,8 +149,8 @@ pub fn start(
     card: &mut [u8],
     config: &[u8],
     sizes: &[u32],
-    events: u16,
-    requester: u16,
+    events: u64,
+    requester: u64,
     table: &mut [u8],
     pending: &mut [u8],
 ) -> u8 {
@@ -177,8 +178,8 @@ pub fn config_read(
     card: &[u8],
     table: &[u8],
     pending: &[u8],
-    offset: u16,
-    width: u8,
+    offset: u64,
+    width: u64,
     value: &mut u32,
 ) -> u8 {
     // SAFETY: as said above.
@@ -202,8 +203,8 @@ pub fn config_write(
     card: &mut [u8],
     table: &[u8],
     pending: &mut [u8],
-    offset: u16,
-    width: u8,
+    offset: u64,
+    width: u64,
     value: u32,
     out: &mut [u8],
     count: &mut usize,
@@ -232,9 +233,9 @@ pub fn bar_read(
     card: &[u8],
     table: &[u8],
     pending: &[u8],
-    bar: u8,
-    offset: u32,
-    width: u8,
+    bar: u64,
+    offset: u64,
+    width: u64,
     value: &mut u64,
 ) -> u8 {
     // SAFETY: as said above.
@@ -259,9 +260,9 @@ pub fn bar_write(
     card: &mut [u8],
     table: &mut [u8],
     pending: &mut [u8],
-    bar: u8,
-    offset: u32,
-    width: u8,
+    bar: u64,
+    offset: u64,
+    width: u64,
     value: u64,
     out: &mut [u8],
     count: &mut usize,
@@ -291,7 +292,7 @@ pub fn event(
     card: &mut [u8],
     table: &[u8],
     pending: &mut [u8],
-    number: u16,
+    number: u64,
     out: &mut [u8],
     answer: &mut u8,
     count: &mut usize,
@@ -314,12 +315,12 @@ pub fn event(
     }
 }
 
-/// Sets the device's line: `level` 0 is low, anything else high.
+/// Sets the device's line: `level` 0 is low, anything else high, 256 too.
 pub fn line(
     card: &mut [u8],
     table: &[u8],
     pending: &[u8],
-    level: u8,
+    level: u64,
     out: &mut [u8],
     count: &mut usize,
 ) -> u8 {
@@ -382,7 +383,8 @@ pub fn save(card: &[u8], table: &[u8], pending: &[u8], out: &mut [u8], count: &m
     }
 }
 
-/// Restores card, table and pending array from an image.
+/// Restores card, table and pending array from an image, over a card of any
+/// contents.
 pub fn restore(card: &mut [u8], table: &mut [u8], pending: &mut [u8], image: &[u8]) -> u8 {
     // SAFETY: as said above.
     unsafe {

@@ -54,12 +54,12 @@ refusals! {
     Structure = 13, "Multiple Message Capable above 5; or a structure runs past byte FFh, overlaps the other one, or has another listed header's first two bytes inside it";
     Region = 14, "a BIR above 5; table (16N bytes) or pending array past its BAR's size; or the two overlapping in one BAR";
     Events = 15, "E not 1 to 2,048, or MSI-X present and N not E";
-    Requester = 16, "requester's low three bits not 0";
+    Requester = 16, "requester's low three bits not 0, or requester above FFFFh";
     Buffers = 17, "table buffer not 16N bytes, or pending buffer not 8 x (N/64 rounded up) bytes";
     Mark = 20, "image under 294 bytes or wrong mark";
     Version = 21, "version not 1";
     Image = 22, "any other image that no sound card saves";
-    Lengths = 60, "card, configuration or sizes of another length than 289, 256 and 6, or a card with other flags than line and wire";
+    Lengths = 60, "card, configuration or sizes of another length than 289, 256 and 6";
 }
 
 impl Refusal {

@@ -162,11 +162,10 @@ impl Region {
     }
 
     /// How far into the region the access starts, if it lies in the region.
-    pub fn place(&self, bar: u8, offset: u32, width: u8) -> Option<usize> {
-        let start = u64::from(offset);
-        let end = start + u64::from(width);
-        if bar == self.bar && self.offset <= start && end <= self.end() {
-            Some((start - self.offset) as usize)
+    pub fn place(&self, bar: u64, offset: u64, width: u64) -> Option<usize> {
+        let at = offset.checked_sub(self.offset)?;
+        if bar == u64::from(self.bar) && at < self.bytes && width <= self.bytes - at {
+            usize::try_from(at).ok()
         } else {
             None
         }

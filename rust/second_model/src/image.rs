@@ -1,8 +1,8 @@
 //! The layout of saved images.
 
 use crate::capability::{pending_bytes, table_bytes, word_at};
-use crate::shape::{check_shape, Shape};
-use crate::sound::is_sound;
+use crate::shape::Shape;
+use crate::sound::{card_shape, is_sound};
 use crate::Card;
 
 // 01: "Mark "IRQ" (49 52 51), version 1 in 16 bits, flags (bit 0 line, bit 1
@@ -68,12 +68,8 @@ pub fn read_image(image: &[u8]) -> Result<Saved<'_>, u8> {
 /// The contents of an image with the right mark and version, if they are those
 /// of a sound card.
 fn read_sound(image: &[u8]) -> Option<Saved<'_>> {
-    // 01: "flags (bit 0 line, bit 1 wire, rest 0)"
-    if image[FLAGS_AT] & !3 != 0 {
-        return None;
-    }
     let card = read_card(image);
-    let shape = check_shape(&card.config, &card.sizes, card.events, card.requester).ok()?;
+    let shape = card_shape(&card).ok()?;
     if image.len() != image_bytes(shape.vectors()) {
         return None;
     }
@@ -89,8 +85,10 @@ fn read_sound(image: &[u8]) -> Option<Saved<'_>> {
 /// The card in the fixed part of an image.
 fn read_card(image: &[u8]) -> Card {
     let mut card = Card::zero();
+    // 01: "flags (bit 0 line, bit 1 wire, rest 0)"
     card.line = image[FLAGS_AT] & 1 != 0;
     card.wire = image[FLAGS_AT] & 2 != 0;
+    card.other_flags = image[FLAGS_AT] & !3;
     card.events = half_at(image, EVENTS_AT);
     card.requester = half_at(image, REQUESTER_AT);
     card.msi_waiting = word_at(image, WAITING_AT);

@@ -1,7 +1,11 @@
 //! A second, independent model of the interrupts of one PCIe endpoint function.
 //!
 //! Each rule stands beside the sentence of document 01 that it follows,
-//! marked `01:`. Doubts about the wording are listed in `READINGS.md`.
+//! marked `01:`. Doubts about the wording are listed in `READINGS.md`. A rule
+//! that the C interface adds to document 01 is marked `C interface:`.
+//!
+//! Numbers that a caller hands in may be wider than their fields, and each rule
+//! is applied to the whole number.
 
 #![forbid(unsafe_code)]
 
@@ -37,6 +41,8 @@ pub struct Card {
     pub requester: u16,
     pub line: bool,
     pub wire: bool,
+    /// Bits 7:2 of the flags; a sound card has none of them.
+    pub other_flags: u8,
     pub msi_waiting: u32,
 }
 
@@ -50,6 +56,7 @@ impl Card {
             requester: 0,
             line: false,
             wire: false,
+            other_flags: 0,
             msi_waiting: 0,
         }
     }

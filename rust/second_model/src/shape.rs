@@ -4,12 +4,14 @@ use crate::capability::{
     pending_bytes, table_bytes, walk, List, Msi, MsiX, Region, MSIX_BYTES, MSIX_ID, MSI_ID,
 };
 
-/// What the bits that no write changes say about a card.
+/// What a card's numbers and the bits that no write changes say about it.
 #[derive(Clone, Copy, Debug)]
 pub struct Shape {
     pub pin: u8,
     pub msi: Option<Msi>,
     pub msix: Option<MsiX>,
+    pub events: u16,
+    pub requester: u16,
 }
 
 impl Shape {
@@ -31,8 +33,8 @@ impl Shape {
 pub fn check_shape(
     config: &[u8; 256],
     sizes: &[u32; 6],
-    events: u16,
-    requester: u16,
+    events: u64,
+    requester: u64,
 ) -> Result<Shape, u8> {
     // 01, no. 10: "byte 0Eh low seven bits not 0, or pin (3Dh) above 4"
     if config[0x0E] & 0x7F != 0 || config[0x3D] > 4 {
@@ -51,20 +53,33 @@ pub fn check_shape(
     if !msix.is_none_or(|msix| regions_accepted(&msix, sizes)) {
         return Err(14);
     }
-    // 01, no. 15: "E not 1 to 2,048, or MSI-X present and N not E"
-    if !(1..=2048).contains(&events) || msix.is_some_and(|msix| msix.vectors != usize::from(events))
-    {
-        return Err(15);
-    }
-    // 01, no. 16: "requester's low three bits not 0"
-    if requester & 7 != 0 {
-        return Err(16);
-    }
+    let events = accepted_events(events, msix.as_ref()).ok_or(15)?;
+    let requester = accepted_requester(requester).ok_or(16)?;
     Ok(Shape {
         pin: config[0x3D],
         msi,
         msix,
+        events,
+        requester,
     })
+}
+
+/// Check 15: the number of events.
+fn accepted_events(events: u64, msix: Option<&MsiX>) -> Option<u16> {
+    // 01, no. 15: "E not 1 to 2,048, or MSI-X present and N not E"
+    let events = u16::try_from(events).ok()?;
+    let accepted =
+        (1..=2048).contains(&events) && msix.is_none_or(|msix| msix.vectors == usize::from(events));
+    accepted.then_some(events)
+}
+
+/// Check 16: the requester ID.
+fn accepted_requester(requester: u64) -> Option<u16> {
+    // C interface: a requester ID is a 16-bit number, and a wider one is
+    // refused with 16.
+    let requester = u16::try_from(requester).ok()?;
+    // 01, no. 16: "requester's low three bits not 0"
+    (requester & 7 == 0).then_some(requester)
 }
 
 /// The place of the one capability with this ID, if it is listed.

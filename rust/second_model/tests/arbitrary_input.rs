@@ -31,6 +31,7 @@ fn arbitrary_card(random: &Random) -> Card {
         requester: random.number() as u16 & random.pick(&[0xFFF8, 0xFFFF]),
         line: random.once_in(2),
         wire: random.once_in(2),
+        other_flags: random.pick(&[0, 0, random.number() as u8 & !3]),
         msi_waiting: random.number() as u32 & random.pick(&[0, 3, u32::MAX]),
     }
 }
@@ -50,7 +51,7 @@ fn arbitrary_bench(random: &Random) -> Bench {
         let control = random.number() as u16 & 0xFF0 | (random.below(6) << 1) as u16;
         let msi = random.pick(&[None, Some(control)]);
         let config = config_with(random.below(5) as u8, msi, vectors);
-        Bench::started(&config, vectors.unwrap_or(40))
+        Bench::started(&config, u64::from(vectors.unwrap_or(40)))
     };
     for _ in 0..random.below(8) {
         turn_over(random, &mut bench);
@@ -62,9 +63,10 @@ fn arbitrary_bench(random: &Random) -> Bench {
 /// Turns one bit over, or changes a length.
 fn turn_over(random: &Random, bench: &mut Bench) {
     let bit = 1 << random.below(8);
-    match random.below(12) {
+    match random.below(13) {
         0 => bench.card.line = !bench.card.line,
         1 => bench.card.wire = !bench.card.wire,
+        12 => bench.card.other_flags ^= bit & !3,
         2 => bench.card.msi_waiting ^= 1 << random.below(32),
         3 if random.once_in(4) => bench.table.truncate(random.below(100) as usize),
         4 if random.once_in(4) => bench.pending.push(bit),
@@ -84,16 +86,17 @@ fn turn_over(random: &Random, bench: &mut Bench) {
 
 /// Makes each call once on a copy and gives the refusal numbers.
 fn each_call(random: &Random, bench: &Bench) -> Vec<u8> {
-    let offset = random.number() as u16 & random.pick(&[0xFC, 0x1FF, 0xFFFF]);
-    let width = random.pick(&[1, 2, 4, 8, random.number() as u8]);
+    let offset = random.number() as usize & random.pick(&[0xFC, 0x1FF, usize::MAX]);
+    let width = random.pick(&[1, 2, 4, 8, random.below(256), random.number()]);
     let value = random.number();
-    let bar = random.pick(&[TABLE_BAR, random.number() as u8]);
-    let bar_offset = random.pick(&[TABLE_OFFSET, 0, random.number() as u32, u32::MAX - 7]);
-    let number = random.number() as u16 & random.pick(&[7, 0xFFFF]);
+    let bar = random.pick(&[TABLE_BAR, random.below(256), random.number()]);
+    let end = random.pick(&[u64::from(u32::MAX), u64::MAX]);
+    let bar_offset = random.pick(&[TABLE_OFFSET, 0, random.number(), end - 7, end - 3]);
+    let number = random.number() & random.pick(&[7, 0xFFFF, u64::MAX]);
     let level = random.once_in(2);
     let calls: [&dyn Fn(&mut Bench) -> Outcome; 9] = [
-        &|b| b.read(usize::from(offset), width),
-        &|b| b.write(usize::from(offset), width, value as u32),
+        &|b| b.read(offset, width),
+        &|b| b.write(offset, width, value as u32),
         &|b| b.write(0x04, 2, value as u32),
         &|b| b.bar_read(bar, bar_offset, width),
         &|b| b.bar_write(bar, bar_offset, width, value),
@@ -150,8 +153,8 @@ fn starts_do_not_panic() {
         let (started, outcome) = start(
             &card.config,
             &card.sizes,
-            card.events,
-            card.requester,
+            u64::from(card.events),
+            u64::from(card.requester),
             &mut table,
             &mut pending,
         );

@@ -19,7 +19,7 @@ fn data_offset(control: u16) -> usize {
 }
 
 /// A card with MSI in force, address FEE00000h and bus mastering on.
-fn msi_card(control: u16, enable: u32, data: u32, events: u16) -> Bench {
+fn msi_card(control: u16, enable: u32, data: u32, events: u64) -> Bench {
     let mut bench = Bench::started(&config_with(1, Some(control), None), events);
     bench.write(0x04, 2, 1 << 2);
     bench.write(MSI + 4, 4, 0xFEE0_0000);
@@ -36,20 +36,21 @@ fn forms(capable: u16) -> [u16; 4] {
 
 /// A card with MSI-X, its memory space on and bus mastering as given.
 fn msix_card(vectors: u16, bus_mastering: bool) -> Bench {
-    let mut bench = Bench::started(&config_with(1, None, Some(vectors)), vectors);
+    let config = config_with(1, None, Some(vectors));
+    let mut bench = Bench::started(&config, u64::from(vectors));
     let command = if bus_mastering { 6 } else { 2 };
     assert_eq!(bench.write(0x04, 2, command).refusal, 0);
     bench
 }
 
-fn sent(bench: &mut Bench, number: u16) -> Vec<u8> {
+fn sent(bench: &mut Bench, number: u64) -> Vec<u8> {
     let outcome = bench.event(number);
     assert_eq!((outcome.refusal, outcome.answer), (0, Some(Answer::Sent)));
     assert!(bench.sound());
     bench.out[..outcome.count].to_vec()
 }
 
-fn answer(bench: &mut Bench, number: u16) -> Answer {
+fn answer(bench: &mut Bench, number: u64) -> Answer {
     let outcome = bench.event(number);
     assert_eq!((outcome.refusal, outcome.value), (0, 0));
     assert!(bench.sound());
@@ -222,7 +223,7 @@ fn case_12_event_numbers_and_room() {
 fn case_13_table_at_the_end_of_its_bar() {
     let mut config = config_with(0, None, Some(3));
     config[MSIX + 8] = 1;
-    let mut sizes = [0, 8, TABLE_OFFSET + 48, 0, 0, 0];
+    let mut sizes = [0, 8, TABLE_OFFSET as u32 + 48, 0, 0, 0];
     let (bench, outcome) = Bench::start(&config, &sizes, 3);
     assert_eq!(outcome.refusal, 0);
     assert!(bench.sound());

@@ -10,8 +10,8 @@ use second_model::*;
 struct Given {
     config: [u8; 256],
     sizes: [u32; 6],
-    events: u16,
-    requester: u16,
+    events: u64,
+    requester: u64,
     vectors: usize,
     places: Places,
 }
@@ -21,8 +21,8 @@ struct Given {
 struct Places {
     msi: Option<usize>,
     msix: Option<usize>,
-    table: (u8, u32),
-    pending: (u8, u32),
+    table: (u64, u64),
+    pending: (u64, u64),
 }
 
 /// Configuration bytes with a random list, mostly one that starting accepts.
@@ -44,12 +44,12 @@ fn random_given(random: &Random) -> Given {
         config,
         sizes,
         events: random.pick(&[1, 2, 3, 8, 33, 100]),
-        requester: random.number() as u16 & !7,
+        requester: random.number() & 0xFFF8,
         vectors,
         places,
     };
     if vectors > 0 {
-        given.events = vectors as u16;
+        given.events = vectors as u64;
     }
     if random.once_in(4) {
         spoil(random, &mut given);
@@ -97,9 +97,9 @@ fn random_msix(random: &Random, structure: &mut [u8], places: &mut Places) -> us
     };
     let control = (vectors - 1) as u16 | (random.number() as u16 & 0xF800);
     structure[2..4].copy_from_slice(&control.to_le_bytes());
-    places.table = (random.below(6) as u8, random.below(0x40) as u32 * 8);
-    places.pending = (random.below(6) as u8, random.below(0x80) as u32 * 8);
-    let word = |place: (u8, u32)| (place.1 | u32::from(place.0)).to_le_bytes();
+    places.table = (random.below(6), random.below(0x40) * 8);
+    places.pending = (random.below(6), random.below(0x80) * 8);
+    let word = |place: (u64, u64)| (place.1 as u32 | place.0 as u32).to_le_bytes();
     structure[4..8].copy_from_slice(&word(places.table));
     structure[8..12].copy_from_slice(&word(places.pending));
     vectors as usize
@@ -108,8 +108,8 @@ fn random_msix(random: &Random, structure: &mut [u8], places: &mut Places) -> us
 /// Changes one thing, which mostly makes the start refuse.
 fn spoil(random: &Random, given: &mut Given) {
     match random.below(6) {
-        0 => given.events = random.pick(&[0, 2048, 2049, u16::MAX]),
-        1 => given.requester |= random.below(8) as u16,
+        0 => given.events = random.pick(&[0, 2048, 2049, 0xFFFF, 0x1_0000 + given.events]),
+        1 => given.requester |= random.pick(&[random.below(8), 1 << 16, 1 << 63]),
         2 => given.sizes = [random.below(0x200) as u32; 6],
         3 => given.vectors = random.below(5) as usize,
         4 => given.config[random.pick(&[0x0E, 0x3D])] = random.below(8) as u8,
@@ -154,6 +154,7 @@ fn blank() -> Card {
         requester: 0,
         line: false,
         wire: false,
+        other_flags: 0,
         msi_waiting: 0,
     }
 }
@@ -161,11 +162,11 @@ fn blank() -> Card {
 /// One call with its arguments.
 #[derive(Clone, Copy, Debug)]
 enum Call {
-    Read(usize, u8),
-    Write(usize, u8, u32),
-    BarRead(u8, u32, u8),
-    BarWrite(u8, u32, u8, u64),
-    Event(u16),
+    Read(usize, u64),
+    Write(usize, u64, u32),
+    BarRead(u64, u64, u64),
+    BarWrite(u64, u64, u64, u64),
+    Event(u64),
     Line(bool),
     Reset,
     Save,
@@ -197,11 +198,11 @@ fn random_call(random: &Random, bench: &Bench, places: &Places) -> Call {
         9..=11 => random_switch(random, places),
         12..=13 => Call::BarRead(bar, bar_offset, bar_width),
         14..=23 => Call::BarWrite(bar, bar_offset, bar_width, value),
-        24..=35 => Call::Event(random.below(u64::from(bench.card.events) + 1) as u16),
+        24..=35 => Call::Event(random.below(u64::from(bench.card.events) + 1)),
         36..=37 => Call::Line(level),
         38 => Call::Save,
         _ if random.once_in(6) => Call::Reset,
-        _ => Call::Event(random.number() as u16),
+        _ => Call::Event(random.number() & random.pick(&[0xFFFF, u64::MAX])),
     }
 }
 
@@ -222,7 +223,7 @@ fn random_switch(random: &Random, places: &Places) -> Call {
     both.unwrap_or(Call::Line(true))
 }
 
-fn random_config_place(random: &Random, places: &Places) -> (usize, u8) {
+fn random_config_place(random: &Random, places: &Places) -> (usize, u64) {
     let word = 4 * random.below(7) as usize;
     let offset = match random.below(6) {
         0 => random.below(300) as usize,
@@ -230,24 +231,17 @@ fn random_config_place(random: &Random, places: &Places) -> (usize, u8) {
         2 => 0x3C,
         _ => places.msi.or(places.msix).unwrap_or(0x40) + word,
     };
-    (
-        offset,
-        random.pick(&[1, 2, 4, 4, random.number() as u8 & 15]),
-    )
+    (offset, random.pick(&[1, 2, 4, 4, random.below(16), 0x104]))
 }
 
-fn random_bar_place(random: &Random, bench: &Bench, places: &Places) -> (u8, u32, u8) {
-    let width = random.pick(&[4, 8, 4, 4, random.number() as u8 & 15]);
-    let entry = random.below(bench.table.len() as u64 / 16 + 1) as u32 * 16;
+fn random_bar_place(random: &Random, bench: &Bench, places: &Places) -> (u64, u64, u64) {
+    let width = random.pick(&[4, 8, 4, 4, random.below(16), 0x104]);
+    let entry = random.below(bench.table.len() as u64 / 16 + 1) * 16;
     let word = random.pick(&[0, 4, 8, 12, 12, 12]);
     match random.below(12) {
-        0 => (random.below(7) as u8, random.below(0x200) as u32 * 4, width),
+        0 => (random.below(7), random.below(0x200) * 4, width),
         1 => (places.pending.0, places.pending.1 + word, width),
-        2 => (
-            places.table.0,
-            places.table.1 + random.below(0x40) as u32,
-            width,
-        ),
+        2 => (places.table.0, places.table.1 + random.below(0x40), width),
         _ => (places.table.0, places.table.1 + entry + word, width),
     }
 }

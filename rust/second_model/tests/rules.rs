@@ -7,7 +7,7 @@ use common::*;
 use second_model::*;
 
 /// The refusal of a start with big BARs.
-fn refusal(config: &[u8; 256], events: u16) -> u8 {
+fn refusal(config: &[u8; 256], events: u64) -> u8 {
     Bench::start(config, &[0x10_0000; 6], events).1.refusal
 }
 
@@ -85,7 +85,7 @@ fn start_places_of_structures() {
 fn start_msix_regions() {
     let mut config = config_with(0, None, Some(65));
     let mut sizes = [0; 6];
-    sizes[2] = TABLE_OFFSET + 16 * 65;
+    sizes[2] = TABLE_OFFSET as u32 + 16 * 65;
     let number = |config: &[u8; 256], sizes: &[u32; 6], e| Bench::start(config, sizes, e).1.refusal;
     assert_eq!(number(&config, &sizes, 65), 0);
     assert_eq!(number(&config, &sizes, 64), 15);
@@ -109,7 +109,7 @@ fn start_msix_regions() {
 #[test]
 fn start_numbers_and_buffers() {
     let config = [0; 256];
-    for (events, expected) in [(0, 15), (1, 0), (2048, 0), (2049, 15), (u16::MAX, 15)] {
+    for (events, expected) in [(0, 15), (1, 0), (2048, 0), (2049, 15), (0xFFFF, 15)] {
         assert_eq!(refusal(&config, events), expected);
     }
     let start_with = |requester, table: usize, pending: usize| {
@@ -120,6 +120,75 @@ fn start_numbers_and_buffers() {
     assert_eq!(start_with(0x0104, 1, 0).refusal, 16);
     assert_eq!(start_with(0x0100, 1, 0).refusal, 17);
     assert_eq!(start_with(0x0100, 0, 8).refusal, 17);
+}
+
+/// Numbers that a cut to one of these numbers of bits makes `number`.
+fn wider(number: u64, bits: &[u32]) -> Vec<u64> {
+    let more = |&bits: &u32| [number + (1 << bits), number | u64::MAX << bits];
+    bits.iter().flat_map(more).collect()
+}
+
+#[test]
+fn wide_numbers_of_a_start() {
+    for events in wider(3, &[16, 32]) {
+        assert_eq!(refusal(&[0; 256], events), 15);
+        assert_eq!(refusal(&config_with(0, None, Some(3)), events), 15);
+    }
+    let start_with = |events, requester, table: &mut [u8]| {
+        let (card, outcome) = start(&[0; 256], &[0; 6], events, requester, table, &mut []);
+        assert_eq!(card.events, 0);
+        outcome.refusal
+    };
+    for requester in wider(0x0100, &[16, 32]) {
+        assert_eq!(start_with(1, requester, &mut []), 16);
+        assert_eq!(start_with(0, requester, &mut []), 15);
+        assert_eq!(start_with(1, requester, &mut [0]), 16);
+    }
+}
+
+#[test]
+fn wide_numbers_of_accesses() {
+    let mut bench = Bench::started(&config_with(0, None, Some(65)), 65);
+    bench.write(0x04, 2, 2);
+    let before = bench.clone();
+    for width in wider(4, &[8, 16, 32]) {
+        assert_eq!(bench.read(0, width).refusal, 3);
+        assert_eq!(bench.write(0x04, width, 0).refusal, 3);
+        assert_eq!(bench.bar_read(TABLE_BAR, TABLE_OFFSET, width).refusal, 4);
+        let write = bench.bar_write(TABLE_BAR, TABLE_OFFSET, width, 4);
+        assert_eq!(write.refusal, 4);
+    }
+    for offset in wider(0x04, &[8, 16, 32]) {
+        assert_eq!(bench.read(offset as usize, 4).refusal, 3);
+        assert_eq!(bench.write(offset as usize, 4, 0).refusal, 3);
+    }
+    for (bar, offset) in wider(TABLE_BAR, &[8, 16, 32])
+        .into_iter()
+        .map(|bar| (bar, TABLE_OFFSET))
+        .chain(
+            wider(TABLE_OFFSET, &[32])
+                .into_iter()
+                .map(|at| (TABLE_BAR, at)),
+        )
+        .chain(wider(0, &[32]).into_iter().map(|at| (PENDING_BAR, at)))
+        .chain([(TABLE_BAR, u64::MAX - 7)])
+    {
+        assert_eq!(bench.bar_read(bar, offset, 8).refusal, 4);
+        assert_eq!(bench.bar_write(bar, offset, 8, 4).refusal, 4);
+    }
+    assert_eq!(bench, before);
+}
+
+#[test]
+fn wide_event_numbers() {
+    let mut bench = Bench::started(&config_with(0, None, Some(65)), 65);
+    bench.write(MSIX + 2, 2, 0x8000);
+    let before = bench.clone();
+    for number in wider(3, &[8, 16, 32]) {
+        assert_eq!(bench.event(number).refusal, 2);
+    }
+    assert_eq!(bench, before);
+    assert_eq!(bench.event(3).answer, Some(Answer::Held));
 }
 
 /// The writable bits of the MSI words behind the first one, for Capable 2.
@@ -202,7 +271,7 @@ fn bar_places() {
         (TABLE_BAR, end - 1, 1),
         (TABLE_BAR, end - 2, 4),
         (TABLE_BAR, TABLE_OFFSET - 4, 4),
-        (TABLE_BAR, u32::MAX - 7, 8),
+        (TABLE_BAR, (1 << 32) - 8, 8),
         (TABLE_BAR, 16, 4),
         (1, TABLE_OFFSET, 4),
         (6, TABLE_OFFSET, 4),
@@ -266,7 +335,7 @@ fn most_bytes_of_a_call() {
     bench.write(MSIX + 2, 2, 0xC000);
     for vector in 0..2048 {
         bench.entry(vector, 1, 0xFEE0_0000, vector, 0);
-        assert_eq!(bench.event(vector as u16).answer, Some(Answer::Held));
+        assert_eq!(bench.event(u64::from(vector)).answer, Some(Answer::Held));
     }
     bench.write(MSIX + 2, 2, 0);
     assert_eq!(bench.line(true).count, 16);
@@ -388,4 +457,20 @@ fn restore_refusals() {
     short.table.pop();
     assert_eq!(short.restore(&image).refusal, 17);
     assert_eq!(short.save().refusal, 1);
+}
+
+#[test]
+fn restore_over_other_flags() {
+    let mut bench = Bench::started(&config_with(1, None, Some(2)), 2);
+    let count = bench.save().count;
+    let image = bench.out[..count].to_vec();
+    for bit in 2..8 {
+        let mut other = bench.clone();
+        other.card.other_flags = 1 << bit;
+        let before = other.clone();
+        assert_eq!(other.restore(&image[..294]).refusal, 22);
+        assert_eq!(other, before);
+        assert_eq!(other.restore(&image).refusal, 0);
+        assert_eq!(other, bench);
+    }
 }

@@ -65,6 +65,13 @@ fn wire_as_it_should_be() {
 }
 
 #[test]
+fn other_flags() {
+    for bit in 2..8 {
+        assert!(!sound_after(|b| b.card.other_flags = 1 << bit));
+    }
+}
+
+#[test]
 fn open_vectors_do_not_wait() {
     let msi = |b: &mut Bench| {
         b.card.config[MSI + 2] |= 1;

@@ -3,9 +3,7 @@
 use super::{write, Run, Trial};
 use crate::call::{Call, Damage, Image, Room, Step};
 use crate::given::{plain, PLAIN_MSI, PLAIN_MSIX};
-use crate::pair::Pair;
 use crate::run::Runner;
-use crate::second;
 use crate::world::{Part, World};
 
 pub fn run(runner: &mut Runner<'_>) -> Run {
@@ -14,7 +12,7 @@ pub fn run(runner: &mut Runner<'_>) -> Run {
         turned_bits(runner, &trial)?;
         wrong_lengths(runner, &trial)?;
     }
-    flags(runner)
+    empty_image(runner)
 }
 
 /// Cards in different states, each by the trial that makes it.
@@ -50,18 +48,9 @@ fn cards() -> Vec<Trial> {
     vec![fresh, wire, quiet, msi, msi_masked, msix, held]
 }
 
-/// The second model's world at the end of a trial.
-fn world_of(trial: &Trial) -> World {
-    let mut pair = Pair::new(&second::apply);
-    for step in &trial.0 {
-        let _ = pair.step(step);
-    }
-    pair.world().clone()
-}
-
 /// Every length of the card's image, and every byte of it changed.
 fn images(runner: &mut Runner<'_>, card: &Trial) -> Run {
-    let world = world_of(card);
+    let world = card.world();
     let length = 5 + world.card.len() + world.table.len() + world.pending.len();
     let mut trial = card.clone();
     trial.call(Call::Save(0));
@@ -100,7 +89,7 @@ fn image_bytes(world: &World) -> (Vec<u8>, Vec<usize>) {
 
 /// Every bit of card, table and pending array turned over, and calls on that.
 fn turned_bits(runner: &mut Runner<'_>, card: &Trial) -> Run {
-    let world = world_of(card);
+    let world = card.world();
     for part in [Part::Card, Part::Table, Part::Pending] {
         let mut trial = card.clone();
         let bytes = world.part(part);
@@ -110,24 +99,17 @@ fn turned_bits(runner: &mut Runner<'_>, card: &Trial) -> Run {
             }
             for bit in 0..8 {
                 trial.byte(part, at, byte ^ 1 << bit);
-                trial.read(0x04, 4).step(put_back(&world));
+                trial.read(0x04, 4).put_back(Part::Card, &world);
                 if bit == at % 8 || part != Part::Card {
                     trial.byte(part, at, byte ^ 1 << bit);
                     turned_call(&mut trial, at + bit);
-                    for part in [Part::Card, Part::Table, Part::Pending] {
-                        trial.step(Step::Contents(part, world.part(part).clone()));
-                    }
+                    trial.put_all_back(&world);
                 }
             }
         }
         trial.run(runner, "bits of cards")?;
     }
     Ok(())
-}
-
-/// Puts the card back as it was.
-fn put_back(world: &World) -> Step {
-    Step::Contents(Part::Card, world.card.clone())
 }
 
 /// A call of the kind that comes next.
@@ -144,7 +126,7 @@ fn turned_call(trial: &mut Trial, kind: usize) {
 
 /// Each call with wrong lengths of card and buffers.
 fn wrong_lengths(runner: &mut Runner<'_>, card: &Trial) -> Run {
-    let world = world_of(card);
+    let world = card.world();
     let mut trial = card.clone();
     trial.call(Call::Save(7));
     for part in [Part::Card, Part::Table, Part::Pending] {
@@ -161,29 +143,15 @@ fn wrong_lengths(runner: &mut Runner<'_>, card: &Trial) -> Run {
         ] {
             trial.length(part, length).each_call().restore(7, &[]);
             trial.restore(7, &[Damage::Length(12)]);
-            for part in [Part::Card, Part::Table, Part::Pending] {
-                trial.step(Step::Contents(part, world.part(part).clone()));
-            }
+            trial.put_all_back(&world);
         }
     }
     trial.run(runner, "wrong lengths")
 }
 
-/// Every flags byte, for each call.
-fn flags(runner: &mut Runner<'_>) -> Run {
-    let mut card = Trial::start(&plain(1, None, Some(1)));
-    let world = world_of(&card);
-    card.call(Call::Save(0));
-    let image = card.clone();
-    for flags in 0..=255 {
-        card.byte(Part::Card, 0, flags).each_call();
-        card.step(put_back(&world)).byte(Part::Card, 0, flags);
-        card.restore(0, &[]).step(put_back(&world));
-        card.restore(0, &[Damage::Byte(5, flags)]);
-        card.step(put_back(&world));
-    }
-    card.run(runner, "flags")?;
-    let mut trial = image;
+/// An image without a byte.
+fn empty_image(runner: &mut Runner<'_>) -> Run {
+    let mut trial = Trial::start(&plain(1, None, Some(1)));
     let empty = Image::Bytes(Vec::new());
     trial.step(Step::Call(Call::Restore(empty), Room::Bytes(0)));
     trial.run(runner, "an empty image")

@@ -48,7 +48,7 @@ fn bench_cases(runner: &mut Runner<'_>) -> Run {
         .entry(3, 1, 0x31, true)
         .event(3)
         .event(3)
-        .tight(bar_write(PLAIN_TABLE.bar, PLAIN_TABLE.offset + 60, 4, 0))
+        .tight(bar_write(PLAIN_TABLE, 60, 4, 0))
         .write(PLAIN_MSIX + 2, 2, 0xC000)
         .entry(9, 0, 9, false)
         .entry(2, 0, 2, false)
@@ -117,7 +117,7 @@ fn bar_accesses(runner: &mut Runner<'_>) -> Run {
         trial
             .bar_read(PLAIN_TABLE, 0, 4)
             .bar_read(PLAIN_TABLE, 0, 2);
-        trial.call(bar_write(PLAIN_TABLE.bar, PLAIN_TABLE.offset, 4, 0));
+        trial.call(bar_write(PLAIN_TABLE, 0, 4, 0));
         trial.write(0x04, 2, 2);
         for (place, end) in [(PLAIN_TABLE, table_end), (PLAIN_PENDING, pending_end)] {
             for offset in (0..24)
@@ -126,14 +126,14 @@ fn bar_accesses(runner: &mut Runner<'_>) -> Run {
             {
                 for width in 0..17 {
                     trial.bar_read(place, offset, width);
-                    let at = place.offset.wrapping_add(offset);
-                    trial.call(bar_write(place.bar, at, width, u64::MAX));
+                    trial.call(bar_write(place, offset, width, u64::MAX));
                 }
             }
         }
         for bar in 0..=255 {
-            trial.bar_read(Place { bar, ..PLAIN_TABLE }, 0, 4);
-            trial.call(bar_write(bar, PLAIN_TABLE.offset, 4, 0xABCD_EF12));
+            let place = Place { bar, ..PLAIN_TABLE };
+            trial.bar_read(place, 0, 4);
+            trial.call(bar_write(place, 0, 4, 0xABCD_EF12));
         }
         trial
             .bar_read(PLAIN_TABLE, 0, 8)
@@ -232,15 +232,13 @@ fn msix(runner: &mut Runner<'_>, vectors: usize, upper: fn(usize) -> usize) -> R
     // By the vectors' own masks.
     if vectors <= 65 {
         for vector in 0..vectors {
-            let at = PLAIN_TABLE.offset + 16 * vector as u32 + 12;
-            trial
-                .call(bar_write(PLAIN_TABLE.bar, at, 4, 1))
-                .event(vector);
+            let at = 16 * vector as u32 + 12;
+            trial.call(bar_write(PLAIN_TABLE, at, 4, 1)).event(vector);
         }
         for vector in 0..vectors {
-            let at = PLAIN_TABLE.offset + 16 * vector as u32;
-            trial.call(bar_write(PLAIN_TABLE.bar, at, 8, 0xFEE0_2003));
-            trial.tight(bar_write(PLAIN_TABLE.bar, at + 8, 8, 0xFFFF_FFFE_0000_0000));
+            let at = 16 * vector as u32;
+            trial.call(bar_write(PLAIN_TABLE, at, 8, 0xFEE0_2003));
+            trial.tight(bar_write(PLAIN_TABLE, at + 8, 8, 0xFFFF_FFFE_0000_0000));
         }
     }
     // The last one alone, and reset with waiting vectors.

@@ -1,7 +1,7 @@
 //! Starts: lists, structures, regions, numbers and lengths.
 
-use super::{Run, Trial};
-use crate::call::Given;
+use super::{wider, Run, Trial};
+use crate::call::{Call, Given};
 use crate::given::{
     plain, put_control, put_list, put_msix, FIRST, MSIX_ID, MSI_ID, PLAIN_MSIX, PLAIN_PENDING,
     PLAIN_TABLE,
@@ -26,6 +26,8 @@ pub fn run(runner: &mut Runner<'_>) -> Run {
     structures(runner)?;
     regions(runner)?;
     numbers(runner)?;
+    wide_numbers(runner)?;
+    wide_requesters(runner)?;
     lengths(runner)
 }
 
@@ -238,7 +240,7 @@ fn end_regions(vectors: usize) -> Vec<Given> {
 fn numbers(runner: &mut Runner<'_>) -> Run {
     let mut all = Vec::new();
     for vectors in [None, Some(1), Some(64), Some(2048)] {
-        for events in [0, 1, 2, 63, 64, 65, 2047, 2048, 2049, 0x8000, u16::MAX] {
+        for events in [0, 1, 2, 63, 64, 65, 2047, 2048, 2049, 0x8000, 0xFFFF] {
             let mut given = plain(1, None, vectors);
             given.events = events;
             all.push(given);
@@ -250,6 +252,53 @@ fn numbers(runner: &mut Runner<'_>) -> Run {
         all.push(given);
     }
     start_all(runner, "numbers", all)
+}
+
+/// Event counts and requesters wider than 16 bits, alone and beside other
+/// faults.
+fn wide_numbers(runner: &mut Runner<'_>) -> Run {
+    let mut all = Vec::new();
+    for vectors in [None, Some(1), Some(64), Some(2048)] {
+        let given = plain(1, None, vectors);
+        for events in wider(given.events) {
+            let given = Given {
+                events,
+                ..given.clone()
+            };
+            all.push(given.clone());
+            all.push(Given {
+                requester: 1 << 16,
+                ..given.clone()
+            });
+            all.push(Given {
+                sizes: vec![0; 6],
+                ..given
+            });
+        }
+    }
+    for requester in [0, 0x0100, 0xFFF8].into_iter().flat_map(wider) {
+        let given = Given {
+            requester,
+            ..plain(1, None, Some(2))
+        };
+        all.push(given.clone());
+        all.push(Given { events: 0, ..given });
+    }
+    start_all(runner, "wide numbers", all)
+}
+
+/// Wide requesters over a table buffer of another length.
+fn wide_requesters(runner: &mut Runner<'_>) -> Run {
+    let given = plain(1, None, Some(2));
+    let mut trial = Trial::start(&given);
+    trial.length(Part::Table, 16);
+    for requester in wider(given.requester) {
+        trial.call(Call::Start(Given {
+            requester,
+            ..given.clone()
+        }));
+    }
+    trial.run(runner, "wide requesters")
 }
 
 /// Lengths of card, configuration, sizes, table and pending array.
@@ -292,8 +341,6 @@ fn lengths(runner: &mut Runner<'_>) -> Run {
             given.sizes.resize(length, 0x10_0000);
             trial.then_start(&plain(1, None, None)).then_start(&given);
         }
-        // A start takes a card with any flags.
-        trial.byte(Part::Card, 0, 0xFF).then_start(&given);
     }
     trial.run(runner, "lengths")
 }

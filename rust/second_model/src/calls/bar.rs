@@ -15,16 +15,17 @@ enum Place {
 
 // 01, no. 4: "BAR above 5, width not 4 or 8, offset not a multiple, or outside
 // table and pending array"
-fn bar_place(shape: &Shape, bar: u8, offset: u32, width: u8) -> Option<Place> {
-    if bar > 5 || !matches!(width, 4 | 8) || !offset.is_multiple_of(u32::from(width)) {
+/// The place and width of an accepted access.
+fn bar_place(shape: &Shape, bar: u64, offset: u64, width: u64) -> Option<(Place, usize)> {
+    if bar > 5 || !matches!(width, 4 | 8) || !offset.is_multiple_of(width) {
         return None;
     }
     let msix = shape.msix?;
-    if let Some(place) = msix.table.place(bar, offset, width) {
-        return Some(Place::Table(place));
-    }
-    let place = msix.pending.place(bar, offset, width)?;
-    Some(Place::Pending(place))
+    let place = match msix.table.place(bar, offset, width) {
+        Some(at) => Place::Table(at),
+        None => Place::Pending(msix.pending.place(bar, offset, width)?),
+    };
+    Some((place, usize::try_from(width).ok()?))
 }
 
 /// Reads the table or the pending array.
@@ -32,21 +33,20 @@ pub fn bar_read(
     card: &Card,
     table: &[u8],
     pending: &[u8],
-    bar: u8,
-    offset: u32,
-    width: u8,
+    bar: u64,
+    offset: u64,
+    width: u64,
 ) -> Outcome {
     let Some(shape) = sound_shape(card, table, pending) else {
         return Outcome::refused(1);
     };
-    let Some(place) = bar_place(&shape, bar, offset, width) else {
+    let Some((place, width)) = bar_place(&shape, bar, offset, width) else {
         return Outcome::refused(4);
     };
     // 01, no. 5: "BAR access with Command bit 1 clear"
     if !memory_space(&card.config) {
         return Outcome::refused(5);
     }
-    let width = usize::from(width);
     Outcome::read(match place {
         Place::Table(at) => read_bytes(table, at, width),
         Place::Pending(at) => read_bytes(pending, at, width),
@@ -59,16 +59,16 @@ pub fn bar_write(
     card: &mut Card,
     table: &mut [u8],
     pending: &mut [u8],
-    bar: u8,
-    offset: u32,
-    width: u8,
+    bar: u64,
+    offset: u64,
+    width: u64,
     value: u64,
     out: &mut [u8],
 ) -> Outcome {
     let Some(shape) = sound_shape(card, table, pending) else {
         return Outcome::refused(1);
     };
-    let Some(place) = bar_place(&shape, bar, offset, width) else {
+    let Some((place, width)) = bar_place(&shape, bar, offset, width) else {
         return Outcome::refused(4);
     };
     // 01, no. 5: "BAR access with Command bit 1 clear"
@@ -80,7 +80,6 @@ pub fn bar_write(
     let Place::Table(at) = place else {
         return Outcome::wrote(0);
     };
-    let width = usize::from(width);
     let before = read_bytes(table, at, width);
     write_table(table, at, width, value);
     // 01, no. 6: "output shorter than this call's packets or image"

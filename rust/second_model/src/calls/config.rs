@@ -7,20 +7,23 @@ use crate::{Card, Outcome};
 
 // 01, no. 3: "configuration width not 1, 2, 4, offset not a multiple of it, or
 // above 255"
-fn config_access_accepted(offset: u16, width: u8) -> bool {
-    matches!(width, 1 | 2 | 4) && offset.is_multiple_of(u16::from(width)) && offset <= 255
+/// The offset and width of an accepted access.
+fn config_place(offset: u64, width: u64) -> Option<(usize, usize)> {
+    if !matches!(width, 1 | 2 | 4) || !offset.is_multiple_of(width) || offset > 255 {
+        return None;
+    }
+    Some((usize::try_from(offset).ok()?, usize::try_from(width).ok()?))
 }
 
 /// Reads configuration bytes.
-pub fn config_read(card: &Card, table: &[u8], pending: &[u8], offset: u16, width: u8) -> Outcome {
+pub fn config_read(card: &Card, table: &[u8], pending: &[u8], offset: u64, width: u64) -> Outcome {
     let Some(shape) = sound_shape(card, table, pending) else {
         return Outcome::refused(1);
     };
-    if !config_access_accepted(offset, width) {
+    let Some((offset, width)) = config_place(offset, width) else {
         return Outcome::refused(3);
-    }
-    let value = read_config(card, &shape, usize::from(offset), usize::from(width));
-    Outcome::read(u64::from(value))
+    };
+    Outcome::read(u64::from(read_config(card, &shape, offset, width)))
 }
 
 /// Writes configuration bytes.
@@ -28,19 +31,18 @@ pub fn config_write(
     card: &mut Card,
     table: &mut [u8],
     pending: &mut [u8],
-    offset: u16,
-    width: u8,
+    offset: u64,
+    width: u64,
     value: u32,
     out: &mut [u8],
 ) -> Outcome {
     let Some(shape) = sound_shape(card, table, pending) else {
         return Outcome::refused(1);
     };
-    if !config_access_accepted(offset, width) {
+    let Some((offset, width)) = config_place(offset, width) else {
         return Outcome::refused(3);
-    }
+    };
     let before = card.config;
-    let (offset, width) = (usize::from(offset), usize::from(width));
     write_config(&mut card.config, &shape, offset, width, value);
     // 01, no. 6: "output shorter than this call's packets or image"
     if out.len() < owed(card, &shape, table, pending) {

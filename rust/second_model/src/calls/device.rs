@@ -13,16 +13,17 @@ pub fn event(
     card: &mut Card,
     table: &mut [u8],
     pending: &mut [u8],
-    number: u16,
+    number: u64,
     out: &mut [u8],
 ) -> Outcome {
     let Some(shape) = sound_shape(card, table, pending) else {
         return Outcome::refused(1);
     };
     // 01, no. 2: "event number E or more"
-    if number >= card.events {
+    let below_e = u16::try_from(number).ok().filter(|&n| n < card.events);
+    let Some(number) = below_e else {
         return Outcome::refused(2);
-    }
+    };
     // 01: "Under MSI-X event e means vector e; under MSI, vector e mod granted."
     // The wire stays as it should be, and no other vector becomes open.
     match in_force(&card.config, &shape) {

@@ -11,8 +11,8 @@ use crate::{Card, Outcome};
 pub fn start(
     config: &[u8; 256],
     sizes: &[u32; 6],
-    events: u16,
-    requester: u16,
+    events: u64,
+    requester: u64,
     table: &mut [u8],
     pending: &mut [u8],
 ) -> (Card, Outcome) {
@@ -28,8 +28,8 @@ pub fn start(
     }
     card.config = *config;
     card.sizes = *sizes;
-    card.events = events;
-    card.requester = requester;
+    card.events = shape.events;
+    card.requester = shape.requester;
     make_fresh(&mut card, &shape, table, pending);
     (card, Outcome::wrote(0))
 }

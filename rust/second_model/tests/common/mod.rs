@@ -5,12 +5,12 @@
 use second_model::*;
 use std::cell::Cell;
 
-pub const REQUESTER: u16 = 0x0100;
+pub const REQUESTER: u64 = 0x0100;
 pub const MSI: usize = 0x50;
 pub const MSIX: usize = 0x70;
-pub const TABLE_BAR: u8 = 2;
-pub const TABLE_OFFSET: u32 = 0x1000;
-pub const PENDING_BAR: u8 = 2;
+pub const TABLE_BAR: u64 = 2;
+pub const TABLE_OFFSET: u64 = 0x1000;
+pub const PENDING_BAR: u64 = 2;
 
 /// A card with its buffers and an output.
 #[derive(Clone, Debug, PartialEq, Eq)]
@@ -22,7 +22,7 @@ pub struct Bench {
 }
 
 impl Bench {
-    pub fn start(config: &[u8; 256], sizes: &[u32; 6], events: u16) -> (Bench, Outcome) {
+    pub fn start(config: &[u8; 256], sizes: &[u32; 6], events: u64) -> (Bench, Outcome) {
         let vectors = vectors_of(config);
         let mut table = vec![0xAA; 16 * vectors];
         let mut pending = vec![0xAA; 8 * vectors.div_ceil(64)];
@@ -36,7 +36,7 @@ impl Bench {
         (bench, outcome)
     }
 
-    pub fn started(config: &[u8; 256], events: u16) -> Bench {
+    pub fn started(config: &[u8; 256], events: u64) -> Bench {
         let (bench, outcome) = Bench::start(config, &[0x10_0000; 6], events);
         assert_eq!(outcome.refusal, 0);
         assert!(bench.sound());
@@ -47,23 +47,23 @@ impl Bench {
         is_sound(&self.card, &self.table, &self.pending)
     }
 
-    pub fn write(&mut self, offset: usize, width: u8, value: u32) -> Outcome {
+    pub fn write(&mut self, offset: usize, width: u64, value: u32) -> Outcome {
         config_write(
             &mut self.card,
             &mut self.table,
             &mut self.pending,
-            offset as u16,
+            offset as u64,
             width,
             value,
             &mut self.out,
         )
     }
 
-    pub fn read(&self, offset: usize, width: u8) -> Outcome {
-        config_read(&self.card, &self.table, &self.pending, offset as u16, width)
+    pub fn read(&self, offset: usize, width: u64) -> Outcome {
+        config_read(&self.card, &self.table, &self.pending, offset as u64, width)
     }
 
-    pub fn bar_write(&mut self, bar: u8, offset: u32, width: u8, value: u64) -> Outcome {
+    pub fn bar_write(&mut self, bar: u64, offset: u64, width: u64, value: u64) -> Outcome {
         bar_write(
             &mut self.card,
             &mut self.table,
@@ -76,11 +76,11 @@ impl Bench {
         )
     }
 
-    pub fn bar_read(&self, bar: u8, offset: u32, width: u8) -> Outcome {
+    pub fn bar_read(&self, bar: u64, offset: u64, width: u64) -> Outcome {
         bar_read(&self.card, &self.table, &self.pending, bar, offset, width)
     }
 
-    pub fn event(&mut self, number: u16) -> Outcome {
+    pub fn event(&mut self, number: u64) -> Outcome {
         event(
             &mut self.card,
             &mut self.table,
@@ -119,7 +119,7 @@ impl Bench {
 
     /// Writes a whole table entry.
     pub fn entry(&mut self, vector: u32, upper: u32, address: u32, data: u32, control: u32) {
-        let offset = TABLE_OFFSET + 16 * vector;
+        let offset = TABLE_OFFSET + 16 * u64::from(vector);
         let low = u64::from(upper) << 32 | u64::from(address);
         let high = u64::from(control) << 32 | u64::from(data);
         assert_eq!(self.bar_write(TABLE_BAR, offset, 8, low).refusal, 0);
@@ -127,7 +127,7 @@ impl Bench {
     }
 
     /// Writes a table entry's control word.
-    pub fn entry_control(&mut self, vector: u32, control: u64) -> Outcome {
+    pub fn entry_control(&mut self, vector: u64, control: u64) -> Outcome {
         self.bar_write(TABLE_BAR, TABLE_OFFSET + 16 * vector + 12, 4, control)
     }
 }
@@ -159,9 +159,9 @@ pub fn config_with(pin: u8, msi: Option<u16>, vectors: Option<u16>) -> [u8; 256]
         config[link] = MSIX as u8;
         config[MSIX] = 0x11;
         config[MSIX + 2..MSIX + 4].copy_from_slice(&(vectors - 1).to_le_bytes());
-        let table = TABLE_OFFSET | u32::from(TABLE_BAR);
+        let table = (TABLE_OFFSET | TABLE_BAR) as u32;
         config[MSIX + 4..MSIX + 8].copy_from_slice(&table.to_le_bytes());
-        config[MSIX + 8..MSIX + 12].copy_from_slice(&u32::from(PENDING_BAR).to_le_bytes());
+        config[MSIX + 8] = PENDING_BAR as u8;
     }
     config
 }
