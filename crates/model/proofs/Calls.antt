@@ -3,6 +3,7 @@ pub mod CallLaws
 pub mod AnswerLaws
 pub mod OutcomeLaws
 pub mod Effects
+pub mod SizeLaws
 pub mod AccessCalls
 pub mod SettleCalls
 pub mod WireCalls

@@ -20,9 +20,14 @@ use Rattle.model.specs.Image.{flags, cardBytes, functionFrom, cardIn}
 use Rattle.model.specs.Claims.{Typed}
 use Rattle.model.proofs.Image.ImageLaws.{line-flag, wire-flag, word16-of, word32-of}
 use Rattle.model.proofs.Image.CardBack.{card-same}
+use Rattle.model.proofs.Calls.SizeLaws.{Sized}
 use Rattle.model.proofs.ImageExact.{length-words, words-below}
 
 -- ---- from the bytes to the card, and back
+
+pub card-sized : (l : List ℕ) → length l ≡ 289 → (table pending : List ℕ) → Sized (worldOf (cardIn l) table pending .endpoint)
+unfolding cardIn functionFrom
+card-sized l n table pending = record { config = length-part l 33 256 (omega arith); sizes = length-words 6 (drop 9 l) }
 
 module _ (l : List ℕ) (b : Bytes l) (n : length l ≡ 289) (table pending : List ℕ) where
   pub card-typed : Typed (worldOf (cardIn l) table pending)
@@ -30,9 +35,9 @@ module _ (l : List ℕ) (b : Bytes l) (n : length l ≡ 289) (table pending : Li
   card-typed = record {
     arrays =
         record {
-          config = length-part l 33 256 (omega arith);
+          config = card-sized l n table pending .config;
           bytes = bytes-part 33 256 l b;
-          sizes = length-words 6 (drop 9 l);
+          sizes = card-sized l n table pending .sizes;
           small = words-below 6 (drop 9 l) (drop-bytes 9 l b);
         };
     events = number-lt (byte l) 1 2 b;
@@ -45,6 +50,12 @@ module _ (l : List ℕ) (b : Bytes l) (n : length l ≡ 289) (table pending : Li
 
 -- ---- from the card to the bytes, and back
 
+pub sized-length : (w : World) → Sized (w .endpoint) → length (cardBytes w) ≡ 289
+unfolding cardBytes bytesOf
+sized-length w k =
+    let z : length (join (bytesOf 4) (w .endpoint .function .sizes)) ≡ 24 = length-join32 (w .endpoint .function .sizes) ∙ ap (λ (n : ℕ). 4 * n) (k .sizes) in
+    simp length-append (omega (arith, z, k .config))
+
 module _ (w : World) (t : Typed w) where
   abbrev f : Function
   f = w .endpoint .function
@@ -56,8 +67,7 @@ module _ (w : World) (t : Typed w) where
   hz = length-join32 (f .sizes) ∙ ap (λ (n : ℕ). 4 * n) (t .arrays .sizes)
 
   pub card-length : length (cardBytes w) ≡ 289
-  unfolding cardBytes bytesOf
-  card-length = simp length-append (omega (arith, hz, t .arrays .config))
+  card-length = sized-length w (record { config = t .arrays .config; sizes = t .arrays .sizes })
 
   flags-small : flags w < 4
   unfolding flags

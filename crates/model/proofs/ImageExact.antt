@@ -26,6 +26,7 @@ use Rattle.model.proofs.Sound.SoundLaws.{accepts, buffers-fit, is-sound
 use Rattle.model.specs.Claims.{Typed, SavedBy, SameRoom, AcceptedIfSaved}
 use Rattle.model.proofs.Image.ImageLaws.{image-reads, image-length}
 use Rattle.model.proofs.Calls.CallLaws.{answered-elim, answered-yes}
+use Rattle.model.proofs.Calls.SizeLaws.{Sized}
 
 -- ---- a sound card's image is accepted, and gives the card back
 
@@ -85,15 +86,20 @@ unfolding words32
 length-words zero l = refl
 length-words (suc n) l = ap suc (length-words n (drop 4 l))
 
--- what an image of at least 294 bytes holds has the declared types
+-- what an image of at least 294 bytes holds has arrays of the declared lengths
+held-sized : (image : List ℕ) → 294 ≤ length image → Sized (worldIn image .endpoint)
+unfolding worldIn functionFrom
+held-sized image h = record { config = length-part image 38 256 (omega arith); sizes = length-words 6 (drop 14 image) }
+
+-- and the declared types
 held-typed : (image : List ℕ) → Bytes image → 294 ≤ length image → Typed (worldIn image)
 unfolding worldIn functionFrom word16 word32
 held-typed image b h = record {
   arrays =
       record {
-        config = length-part image 38 256 (omega arith);
+        config = held-sized image h .config;
         bytes = bytes-part 38 256 image b;
-        sizes = length-words 6 (drop 14 image);
+        sizes = held-sized image h .sizes;
         small = words-below 6 (drop 14 image) (drop-bytes 14 image b);
       };
   events = number-lt (byte image) 6 2 b;
@@ -107,14 +113,22 @@ held-saved image b long e =
     let s = both (sound (worldIn image)) (same (imageOf (worldIn image)) image) e in
     record { typed = held-typed image b long; isSound = s .0; bytes = same-true (imageOf (worldIn image)) image (s .1) }
 
+-- row 20 passed
+long-enough : (image : List ℕ) (t p : ℕ) → restoreRefusal image t p ≡ 0 → 294 ≤ length image
+unfolding restoreRefusal
+long-enough image t p e =
+    ltb-false (length image) 294 (neither (ltb (length image) 294) (not (same (take 3 image) mark)) (passed 20 _ refl e .0) .0)
+
+pub restored-sized : (image : List ℕ) (t p : ℕ) → restoreRefusal image t p ≡ 0 → Sized (worldIn image .endpoint)
+restored-sized image t p e = held-sized image (long-enough image t p e)
+
 saved-by : (image : List ℕ) (t p : ℕ) → Bytes image → restoreRefusal image t p ≡ 0 → SavedBy image (worldIn image)
 unfolding restoreRefusal
 saved-by image t p b e =
     let r20 = passed 20 _ refl e in
     let r21 = passed 21 _ refl (r20 .1) in
     let r22 = passed 22 _ refl (r21 .1) in
-    let long = ltb-false (length image) 294 (neither (ltb (length image) 294) (not (same (take 3 image) mark)) (r20 .0) .0) in
-    held-saved image b long (not-false (isSaved image) (r22 .0))
+    held-saved image b (long-enough image t p e) (not-false (isSaved image) (r22 .0))
 
 -- the card of an accepted image has the declared types
 pub restored-typed : (image : List ℕ) (t p : ℕ) → Bytes image → restoreRefusal image t p ≡ 0 → Typed (worldIn image)

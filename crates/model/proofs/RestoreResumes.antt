@@ -35,6 +35,16 @@ room-refl w = record { table = refl; pending = refl }
 room-trans : {u v w : World} → SameRoom u v → SameRoom v w → SameRoom u w
 room-trans p q = record { table = p .table ∙ q .table; pending = p .pending ∙ q .pending }
 
+-- two sound cards with one configuration have buffers of the same lengths
+pub room-sound : (w v : World) → sound w ≡ true → sound v ≡ true → w .endpoint .function .config ≡ v .endpoint .function .config → SameRoom w v
+room-sound w v s k e =
+    let a = buffers-fit (shape (w .endpoint)) (length (w .endpoint .table)) (length (w .endpoint .pending)) (accepts (givenOf (w .endpoint)) (is-sound w s .endpoint .start) .buffers) in
+    let b = buffers-fit (shape (v .endpoint)) (length (v .endpoint .table)) (length (v .endpoint .pending)) (accepts (givenOf (v .endpoint)) (is-sound v k .endpoint .start) .buffers) in
+    record {
+      table = a .0 ∙ ap (λ (c : List ℕ). tableBytes (shapeOf c)) e ∙ sym (b .0);
+      pending = a .1 ∙ ap (λ (c : List ℕ). pendingBytes (shapeOf c)) e ∙ sym (b .1);
+    }
+
 -- of a function that is then swept
 room-settled : (w : World) (u : Endpoint) → length (u .table) ≡ length (w .endpoint .table) → length (u .pending) ≡ length (w .endpoint .pending)
     → SameRoom (settled (shape (w .endpoint)) u) w

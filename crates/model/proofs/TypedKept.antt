@@ -7,13 +7,11 @@ use native.Mathlib.Nat.{lt-of-le-of-lt}
 use native.Mathlib.Omega.{arith}
 use lib.ListN.{length}
 use lib.Pow.{pow-mono}
-use Rattle.words.specs.Bits.{clear}
 use Rattle.words.specs.Bytes.{Below, Bytes}
-use Rattle.words.proofs.BitLaws.{clear-le}
-use Rattle.words.proofs.BytesLaws.{bytes-each, bytes-replicate, below-replicate}
+use Rattle.words.proofs.BytesLaws.{bytes-replicate, below-replicate}
 use Rattle.model.specs.declared.Shape.{Shape}
 use Rattle.model.specs.Shape.{shapeOf, msiVectors}
-use Rattle.model.specs.Registers.{fixedByte, startedConfig, writable, storedZero}
+use Rattle.model.specs.Registers.{startedConfig}
 use Rattle.model.specs.World.{World, Endpoint}
 use Rattle.model.specs.Release.{settled}
 use Rattle.model.specs.Start.{Given}
@@ -24,12 +22,10 @@ use Rattle.model.specs.Calls.{Call, Outcome, Operation, call, start, res
 use Rattle.model.proofs.Registers.FixedLaws.{length-started}
 use Rattle.model.proofs.Sound.SoundLaws.{Accepts, accepts, SoundEndpoint, is-sound, events-fit, requester-fits}
 use Rattle.model.proofs.Sound.StartLaws.{few-msi, started-sound}
-use Rattle.model.proofs.Vectors.WaitingLaws.{OnlyWaiting}
-use Rattle.model.proofs.Vectors.SweepLaws.{swept-only}
-use Rattle.model.proofs.Vectors.RaisedLaws.{raised-only}
 use Rattle.model.proofs.Vectors.SettleLaws.{below}
 use Rattle.model.proofs.Calls.CallLaws.{answered-elim, step-elim}
-use Rattle.model.proofs.Calls.Effects.{Effect, reads, saves, settles, raises, restarts, effect}
+use Rattle.model.proofs.Calls.Effects.{effect}
+use Rattle.model.proofs.Calls.SizeLaws.{Alike, alike-effect, started-bytes}
 use Rattle.model.proofs.SoundKept.{effect-sound}
 use Rattle.model.proofs.ImageExact.{restored-typed}
 
@@ -52,46 +48,6 @@ sound-typed w s a =
     }
 
 -- ---- the arrays after a call
-
--- the configuration has as many bytes as before, and the sizes are the same
-pub record Alike (u u′ : Endpoint) : Type 0 where
-  pub config : length (u′ .function .config) ≡ length (u .function .config)
-  pub bytes : Bytes (u .function .config) → Bytes (u′ .function .config)
-  pub sizes : u′ .function .sizes ≡ u .function .sizes
-
-alike-refl : (u : Endpoint) → Alike u u
-alike-refl u = record { config = refl; bytes = λ b. b; sizes = refl }
-
-alike-trans : {u v w : Endpoint} → Alike u v → Alike v w → Alike u w
-alike-trans p q = record { config = q .config ∙ p .config; bytes = λ b. q .bytes (p .bytes b); sizes = q .sizes ∙ p .sizes }
-
-alike-only : {u u′ : Endpoint} → OnlyWaiting u u′ → Alike u u′
-alike-only {u} o = record { config = ap length (o .config); bytes = λ b. subst Bytes (sym (o .config)) b; sizes = o .sizes }
-
-fixed-byte : (s : Shape) (i b : ℕ) → b < 256 → fixedByte s i b < 256
-unfolding fixedByte
-fixed-byte s i b h = omega (arith, clear-le (writable s i) (clear (storedZero s i) b), clear-le (storedZero s i) b)
-
-started-bytes : (s : Shape) (config : List ℕ) → Bytes config → Bytes (startedConfig s config)
-unfolding startedConfig
-started-bytes s config b = bytes-each (fixedByte s) (fixed-byte s) 0 config b
-
-alike-effect : (w : World) → {b : Bool} {v : World} {bytes : List ℕ} → Effect w b v bytes → Alike (w .endpoint) (v .endpoint)
-alike-effect w reads = alike-refl (w .endpoint)
-alike-effect w saves = alike-refl (w .endpoint)
-alike-effect w (settles u h) =
-    alike-trans (record { config = h .config; bytes = h .bytes; sizes = h .sizes }) (alike-only (swept-only (shape (w .endpoint)) u))
-alike-effect w (raises e h) =
-    alike-trans (alike-only (raised-only (shape (w .endpoint)) (w .endpoint) e)) (alike-only (swept-only (shape (w .endpoint)) _))
-alike-effect w restarts = record {
-  config = length-started (shape (w .endpoint)) (w .endpoint .function .config);
-  bytes = started-bytes (shape (w .endpoint)) (w .endpoint .function .config);
-  sizes = refl;
-}
-
-pub alike-step : (w : World) (c : Call) → Alike (w .endpoint) (step w c .world .endpoint)
-alike-step w c =
-    step-elim w c (λ (r : Outcome). Alike (w .endpoint) (r .world .endpoint)) (λ p. alike-effect w (effect w c p)) (λ _ _. alike-refl (w .endpoint))
 
 arrays-alike : {u u′ : Endpoint} → Alike u u′ → ArraysOf u → ArraysOf u′
 arrays-alike k a = record {

@@ -1,12 +1,13 @@
 -- What the outcome of a call does not have, and which calls leave the card as it was. Assumes nothing.
 use mathlib.Core.Path.{_≡_, refl, ap}
-use mathlib.Core.Bool.{true, false}
+use mathlib.Core.Bool.{true, false, false≢true}
 use mathlib.Core.List.{List, []}
 use Prim.Native.Nat.{ℕ}
 use lib.ListN.{length}
 use borrow.Author.Tests.{eqb-false}
 use Rattle.model.specs.Answers.{refusalOf, isAccepted, valueOf, eventCode}
 use Rattle.model.specs.World.{World, Endpoint}
+use Rattle.model.specs.Sound.{sound}
 use Rattle.model.specs.Image.{restoreRefusal}
 use Rattle.model.specs.Start.{Given, startRefusal}
 use Rattle.model.specs.Calls.{Call, Outcome, configRead, barRead, save, next, sends, step, startOf, restoreOf}
@@ -30,6 +31,11 @@ module _ (w : World) (c : Call) where
   zero-accepted =
       step-elim w c (λ (r : Outcome). refusalOf (r .answer) ≡ 0 → isAccepted (r .answer) ≡ true)
       (λ _ _. answer-accepted (w .endpoint) c) (λ n z e. absurd (eqb-false n 0 z e))
+
+  -- and an accepted one was made on a sound card
+  pub accepted-sound : isAccepted (step w c .answer) ≡ true → sound w ≡ true
+  unfolding isAccepted
+  accepted-sound = step-elim w c (λ (r : Outcome). isAccepted (r .answer) ≡ true → sound w ≡ true) (λ p _. p .isSound) (λ _ _ e. absurd (false≢true e))
 
 -- ---- outcomes
 
