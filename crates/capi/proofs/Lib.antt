@@ -3,3 +3,5 @@ pub mod CrossingFor
 pub mod ReadFor
 pub mod StartFor
 pub mod Refused
+pub mod HostFor
+pub mod HostResumes

@@ -16,7 +16,7 @@ use Rattle.words.proofs.ListLaws.{same-true, same-refl}
 use Rattle.words.proofs.ByteLaws.{number-lt, drop-bytes, length-part}
 use Rattle.words.proofs.BytesLaws.{bytes-part}
 use Rattle.model.specs.declared.Answer.the-variants.{Done}
-use Rattle.model.specs.Answers.{isAccepted}
+use Rattle.model.specs.Answers.{isAccepted, refusalOf}
 use Rattle.model.specs.Shape.{tableBytes}
 use Rattle.model.specs.World.{World}
 use Rattle.model.specs.Sound.{sound, shape, givenOf}
@@ -27,6 +27,7 @@ use Rattle.model.specs.Claims.{Typed, SavedBy, SameRoom, AcceptedIfSaved
 use Rattle.model.proofs.Image.ImageLaws.{image-reads, image-length}
 use Rattle.model.proofs.Calls.CallLaws.{answered-elim, answered-yes}
 use Rattle.model.proofs.Calls.SizeLaws.{Sized}
+use Rattle.model.proofs.Refusals.{restore-number}
 
 -- ---- a sound card's image is accepted, and gives the card back
 
@@ -119,8 +120,13 @@ unfolding restoreRefusal
 long-enough image t p e =
     ltb-false (length image) 294 (neither (ltb (length image) 294) (not (same (take 3 image) mark)) (passed 20 _ refl e .0) .0)
 
-pub restored-sized : (image : List ℕ) (t p : ℕ) → restoreRefusal image t p ≡ 0 → Sized (worldIn image .endpoint)
-restored-sized image t p e = held-sized image (long-enough image t p e)
+pub restored-sized : (w : World) (image : List ℕ) → refusalOf (restoreOf w image .answer) ≡ 0 → Sized (restoreOf w image .world .endpoint)
+unfolding restoreOf
+restored-sized w image e =
+    let t : ℕ = length (w .endpoint .table) in
+    let p : ℕ = length (w .endpoint .pending) in
+    let z = sym (restore-number w image) ∙ e in
+    rw (answered-yes (restoreRefusal image t p) _ _ z) (held-sized image (long-enough image t p z))
 
 saved-by : (image : List ℕ) (t p : ℕ) → Bytes image → restoreRefusal image t p ≡ 0 → SavedBy image (worldIn image)
 unfolding restoreRefusal
