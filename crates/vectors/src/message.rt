@@ -79,8 +79,8 @@ pub fn entry_message(entry: &[u8]) -> Message
     ensures { λ r. ⌜ r ≡ messageIn (now (entry .entry)) ⌝ }
 {
     Message {
-        upper: words::get::word32(entry, 4),
         address: words::get::word32(entry, 0),
+        upper: words::get::word32(entry, 4),
         value: words::get::word32(entry, 8),
     }
 }
