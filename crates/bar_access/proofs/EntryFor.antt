@@ -4,8 +4,7 @@ use mathlib.Core.Bool.{Bool, true, false, _&&_, and-false, and-true}
 use mathlib.Core.List.{List}
 use Prim.Native.Nat.{ℕ, _+_, _-_, _*_, _/_, _%_, _≤_, _<_}
 use native.Mathlib.Omega.{arith}
-use lib.ListN.{length, take, drop, length-drop, List·getD-append}
-use lib.Seq.{length-take-le, getD-take, getD-drop}
+use lib.ListN.{length, List·getD-append}
 use Rattle.words.specs.Lists.{within}
 use Rattle.words.specs.Bytes.{byte, bytesOf}
 use Rattle.words.specs.Writers.{over}
@@ -15,14 +14,15 @@ use Rattle.model.specs.declared.Mode.the-variants.{Msix}
 use Rattle.model.specs.declared.Profile.{Profile}
 use Rattle.model.specs.World.{Endpoint, withWaiting}
 use Rattle.model.specs.Registers.{entryWritable, written}
-use Rattle.model.specs.Vectors.{masked, sameMode, isOpen, waits}
+use Rattle.model.specs.Vectors.{sameMode, isOpen, waits}
 use Rattle.model.proofs.Registers.WriteLaws.{byte-written}
-use Rattle.model.proofs.Registers.EntryLaws.{entry-writable, entry-masked}
+use Rattle.model.proofs.Registers.EntryLaws.{entry-writable}
 use Rattle.model.proofs.Vectors.SweepLaws.{in-force, other-shut}
 use Rattle.vectors.specs.Given.{regs, InForce, Profiled}
 use Rattle.vectors.specs.Enabled.{msixEnabled}
+use Rattle.vectors.specs.Entries.{IsEntry, maskIn}
 use Rattle.vectors.proofs.MsixLaws.{when-masked, when-clear}
-use Rattle.bar_access.specs.Entries.{IsEntry}
+use Rattle.vectors.proofs.EntryLaws.{entry-mask}
 
 -- ---- the entry after a write
 
@@ -43,19 +43,12 @@ module _ (at n : ℕ) where
       byte-written entryWritable e (at % 16) (bytesOf n x) i (omega arith)
       ∙ rw (same i h, r, sym (entry-writable (at / 16) i), j) (sym (byte-written entryWritable t at (bytesOf n x) k (omega arith)))
 
--- its 16 bytes copied
-copied : (t o : List ℕ) (v : ℕ) → 16 * v + 16 ≤ length t → IsEntry (over (take 16 (drop (16 * v) t)) o) t v
-copied t o v h i l =
-    let n : length (take 16 (drop (16 * v) t)) ≡ 16 = length-take-le 16 (drop (16 * v) t) (omega (arith, length-drop (16 * v) t)) in
-    List·getD-append (take 16 (drop (16 * v) t)) _ 0 i (omega (arith, n)) ∙ getD-take 16 (drop (16 * v) t) i 0 l ∙ getD-drop (16 * v) t i 0
-
-pub entry-copied : (t o e e′ : List ℕ) (at n x : ℕ) → e ≡ over (take (at / 16 * 16 + 16 - at / 16 * 16) (drop (at / 16 * 16) t)) o
+-- its 16 bytes p copied over o, and written
+pub entry-copied : (t p o e e′ : List ℕ) (at n x : ℕ) → (length p ≡ 16) × IsEntry p t (at / 16) → e ≡ over p o
     → e′ ≡ written entryWritable e (at % 16) (bytesOf n x) → 16 * (at / 16) + 16 ≤ length t → 16 ≤ length e → IsEntry e′ (written entryWritable t at (bytesOf n x)) (at / 16)
-entry-copied t o e e′ at n x p q h l i j =
-    let a : at / 16 * 16 ≡ 16 * (at / 16) = omega arith in
-    let b : at / 16 * 16 + 16 - at / 16 * 16 ≡ 16 = omega arith in
-    let same : IsEntry e t (at / 16) = rw (p, b, a) (copied t o (at / 16) h) in
-    ap (λ (z : List ℕ). byte z i) q ∙ entry-written at n t e x same l h i j
+entry-copied t p o e e′ at n x f a b h l i j =
+    let same : IsEntry e t (at / 16) = λ k m. ap (λ (z : List ℕ). byte z k) a ∙ List·getD-append p _ 0 k (omega (arith, f .0)) ∙ f .1 k m in
+    ap (λ (z : List ℕ). byte z i) b ∙ entry-written at n t e x same l h i j
 
 -- ---- vector v is open and waits, by each way to find it: k is what the configuration c says
 
@@ -79,13 +72,12 @@ module _ (c : List ℕ) (k : Profile) (f : Profiled c k) where
 
     -- e holds the entry of v
     module _ (e : List ℕ) (same : IsEntry e t v) where
-      pub owed-masked : masked Msix (k .shape) (regs c e) 0 ≡ true → false ≡ isOwed
+      pub owed-masked : maskIn e ≡ true → false ≡ isOwed
       owed-masked h =
           ap (λ (x : Bool). x && waits Msix (withWaiting u 0 p) v)
-          (when-masked (k .shape) (regs c t) v (sym (entry-masked e t v same (k .shape) c) ∙ h))
+          (when-masked (k .shape) (regs c t) v (sym (entry-mask e t v same (k .shape) c) ∙ h))
 
-      pub owed-open : waits Msix (withWaiting u 0 p) v ≡ true → masked Msix (k .shape) (regs c e) 0 ≡ false → v < k .shape .msix .vectors
-          → msixEnabled (k .shape) (regs c t) ≡ isOwed
+      pub owed-open : waits Msix (withWaiting u 0 p) v ≡ true → maskIn e ≡ false → v < k .shape .msix .vectors → msixEnabled (k .shape) (regs c t) ≡ isOwed
       owed-open h g l =
-          when-clear (k .shape) (regs c t) v l (sym (entry-masked e t v same (k .shape) c) ∙ g)
+          when-clear (k .shape) (regs c t) v l (sym (entry-mask e t v same (k .shape) c) ∙ g)
           ∙ sym (ap (λ (x : Bool). isOpen Msix (k .shape) (regs c t) v && x) h ∙ and-true (isOpen Msix (k .shape) (regs c t) v))

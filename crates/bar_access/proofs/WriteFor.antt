@@ -22,7 +22,6 @@ use Rattle.model.specs.Release.{settled, settleBytes, wireDueOf}
 use Rattle.model.specs.Calls.{accepted, settleOf}
 use Rattle.model.proofs.Registers.BarLaws.{bar-swept, bar-bytes, bar-wire}
 use Rattle.model.proofs.Calls.CallLaws.{room-short, room-fits}
-use Rattle.model.proofs.Registers.EntryLaws.{entry-message}
 use Rattle.model.proofs.Shapes.FitLaws.{table-room, pending-room}
 use Rattle.model.proofs.Vectors.PacketLaws.{message-length}
 use Rattle.model.proofs.Calls.SettleCalls.{vectors-only}
@@ -30,17 +29,27 @@ use Rattle.model.proofs.Sound.SoundLaws.{is-sound}
 use Rattle.model.proofs.Vectors.WaitingLaws.{waits-pending, change-msix}
 use Rattle.vectors.specs.declared.message.Message.{Message}
 use Rattle.vectors.specs.Given.{regs}
+use Rattle.vectors.specs.Entries.{IsEntry, messageIn}
+use Rattle.vectors.proofs.EntryLaws.{vector-packet}
 use Rattle.card.specs.declared.outcome.Outcome.{Outcome}
 use Rattle.card.specs.Outcomes.{refusedWith, acceptedWith, after}
 use Rattle.card.specs.Running.{Running}
 use Rattle.card.proofs.SoundFor.{running-endpoint, running-fit}
-use Rattle.bar_access.specs.Entries.{IsEntry, tableWritten}
+use Rattle.bar_access.specs.Entries.{tableWritten}
 
 -- what the code finds: the vector of the entry at place `at` is open after a write of n bytes of x there, and waits
 abbrev pub owedAfter : Card → (t p : List ℕ) → Profile → (at n x : ℕ) → Bool
 owedAfter card t p k at n x =
     isOpen Msix (k .shape) (regs (card .function .config) (written entryWritable t at (bytesOf n x))) (at / 16)
     && waits Msix (withWaiting (worldOf card t p .endpoint) 0 p) (at / 16)
+
+-- by a copy e of the entry, for its vector v
+pub owed-found : (card : Card) (t p : List ℕ) (k : Profile) (at n x : ℕ) (b : Bool) (v : ℕ) → v ≡ at / 16
+    → let t′ : List ℕ = written entryWritable t at (bytesOf n x) in
+    (e : List ℕ) → IsEntry e t′ (at / 16)
+    → (IsEntry e t′ v → b ≡ (isOpen Msix (k .shape) (regs (card .function .config) t′) v && waits Msix (withWaiting (worldOf card t p .endpoint) 0 p) v))
+    → b ≡ owedAfter card t p k at n x
+owed-found card t p k at n x b v ev e same f = rw ev at f same
 
 -- ---- n bytes at place `at` of the table
 
@@ -126,15 +135,14 @@ module _ (card : Card) (t p : List ℕ) (k : Profile) (r : Running card t p k) (
 
       -- its message m, from a copy e of the entry after the write
       module _ (f : found ≡ true) (e : List ℕ) (same : IsEntry e t′ (at / 16)) (m : Message)
-          (em : message (card .function .requester) (m .upper) (m .address) (m .value) ≡ messageOf Msix (k .shape) (card .function .requester) (regs (card .function .config) e) 0)
-          (size : ℕ) (es : size ≡ messageSize (m .upper)) where
+          (em : m ≡ messageIn e) (size : ℕ) (es : size ≡ messageSize (m .upper)) where
         abbrev packet : List ℕ
         packet = message (card .function .requester) (m .upper) (m .address) (m .value)
 
         sent : settleBytes (k .shape) (card .wire) u′ ≡ packet
         sent =
             bytes-are ∙ ap bytesFor (same-test ∙ f)
-            ∙ sym (em ∙ entry-message e t′ (at / 16) same (k .shape) (card .function .config) (card .function .requester))
+            ∙ sym (vector-packet e t′ (at / 16) same m em (card .function .requester) (k .shape) (card .function .config))
 
         room : length (settleBytes (k .shape) (card .wire) u′) ≡ size
         room = ap length sent ∙ message-length (card .function .requester) (m .upper) (m .address) (m .value) ∙ sym es
@@ -145,12 +153,13 @@ module _ (card : Card) (t p : List ℕ) (k : Profile) (r : Running card t p k) (
             (λ i. after (ey i) t p out)
             ∙ sym (room-short w (settled (k .shape) u′) Done (settleBytes (k .shape) (card .wire) u′) out (omega (arith, room)))
 
+        -- the pending bit of the vector v of the entry is cleared
         pub write-sent : (t₁ p₁ o₁ : List ℕ) (count : ℕ) → size ≤ length out → t₁ ≡ t′
-            → p₁ ≡ set p (at / 16 / 8) (clearBit (byte p (at / 16 / 8)) (at / 16 % 8)) → Wrote packet out count o₁ → y ≡ acceptedWith card Done count
+            → (v : ℕ) → v ≡ at / 16 → p₁ ≡ set p (v / 8) (clearBit (byte p (v / 8)) (v % 8)) → Wrote packet out count o₁ → y ≡ acceptedWith card Done count
             → after y t₁ p₁ o₁ ≡ settleOf w (k .shape) u′ out
-        write-sent t₁ p₁ o₁ count l et ep wrote ey =
+        write-sent t₁ p₁ o₁ count l et v ev ep wrote ey =
             (λ i. after (ey i) (et i) (ep i) (wrote .bytes i))
-            ∙ (λ i. after (acceptedWith card Done (wrote .count i)) t′ (set p (at / 16 / 8) (clearBit (byte p (at / 16 / 8)) (at / 16 % 8))) (over packet out))
+            ∙ (λ i. after (acceptedWith card Done (wrote .count i)) t′ (set p (ev i / 8) (clearBit (byte p (ev i / 8)) (ev i % 8))) (over packet out))
             ∙ sym (room-fits w (settled (k .shape) u′) Done (settleBytes (k .shape) (card .wire) u′) out (omega (arith, room))
             ∙ ap₂ (λ (w : World) (l : List ℕ). accepted w Done l out)
             (world-is ∙ ap worldFor (same-test ∙ f) ∙ ap (λ (v : Endpoint). record { endpoint = v; wire = card .wire }) (change-msix clearBit u′ (at / 16)))

@@ -18,11 +18,11 @@ use card::sound::check;
 use model::Answer;
 use model::Card;
 use model::Profile;
-use model::Vector;
 use registers::bar::in_table;
 use registers::table::table_written;
 use tlp::message_size;
-use vectors::message::msix_message;
+use vectors::entry::entry_vector;
+use vectors::message::entry_message;
 use vectors::message::put_vector_message;
 use vectors::mode::command_bit;
 use vectors::waiting::clear_pending;
@@ -44,13 +44,13 @@ fn write_entry(
         ≡ settleOf (worldOf card (now (table .entry)) (now (pending .entry))) (k .shape)
         (tableWritten (worldOf card (now (table .entry)) (now (pending .entry))) at (bytesOf n value)) (now (out .entry)) ⌝ }
 {
-    let v = Vector((at / 16) as u16);
+    let v = entry_vector(at);
     let entry = entry_after(table, at, n, value);
     if !is_owed(&card.function.config, k, &entry, pending, v) {
         table_written(table, at, n, value);
         return accepted(card, Answer::Done, 0);
     }
-    let m = msix_message(&entry, Vector(0));
+    let m = entry_message(&entry);
     if out.len() < message_size(m.upper) {
         return refused(card, 6);
     }

@@ -9,13 +9,14 @@ ghost use Rattle.model.specs.World.{Endpoint, withWaiting};
 ghost use Rattle.model.specs.Registers.{entryWritable, written};
 ghost use Rattle.model.specs.Vectors.{isOpen, waits};
 ghost use Rattle.vectors.specs.Given.{regs, Profiled};
-ghost use Rattle.bar_access.specs.Entries.{IsEntry};
+ghost use Rattle.vectors.specs.Entries.{IsEntry};
 use model::Mode;
 use model::Profile;
 use model::Vector;
 use registers::table::table_written;
+use vectors::entry::entry_masked;
+use vectors::entry::entry_of;
 use vectors::mode::is_msix;
-use vectors::msix::entry_masked;
 use vectors::msix::msix_enabled;
 use vectors::waiting::waits;
 
@@ -24,9 +25,8 @@ pub fn entry_after(table: &[u8], at: usize, n: usize, value: u64) -> [u8; 16]
     requires { ⌜ (at % 16 + n ≤ 16) × (16 * (at / 16) + 16 ≤ length (now table)) ⌝ }
     ensures { λ r. ⌜ IsEntry r (written entryWritable (now (table .entry)) at (bytesOf n value)) (at / 16) ⌝ }
 {
-    let start = at / 16 * 16;
     let mut entry = [0u8; 16];
-    words::put::put_slice(&mut entry, &table[start..start + 16]);
+    words::put::put_slice(&mut entry, entry_of(table, at / 16));
     table_written(&mut entry, at % 16, n, value);
     entry
 }
@@ -44,7 +44,7 @@ pub fn is_owed(config: &[u8; 256], k: Profile, entry: &[u8], pending: &[u8], v: 
     if !waits(Mode::Msix, 0, pending, v) {
         return false;
     }
-    if entry_masked(entry, 0) {
+    if entry_masked(entry) {
         return false;
     }
     msix_enabled(config, k.shape)

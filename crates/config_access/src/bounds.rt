@@ -24,9 +24,6 @@ pub fn bad_config(offset: u16, width: u8) -> bool
     if !is_config_width(width) {
         return true;
     }
-    if width == 0 {
-        return true;
-    }
     if offset % (width as u16) != 0 {
         return true;
     }

@@ -2,6 +2,7 @@
 use mathlib.Core.Path.{_≡_, sym, ap, _∙_}
 use mathlib.Core.Bool.{Bool, true, false}
 use mathlib.Core.List.{List, []}
+use mathlib.Core.Option.{Option, none, some}
 use Prim.Native.Nat.{ℕ, _/_, _%_, _≤_, _<_}
 use native.Mathlib.Omega.{arith}
 use lib.ListN.{length, set}
@@ -16,11 +17,12 @@ use Rattle.model.specs.declared.Mode.{Mode}
 use Rattle.model.specs.declared.Mode.the-variants.{Pin, Msi, Msix}
 use Rattle.model.specs.declared.Profile.{Profile}
 use Rattle.model.specs.declared.Shape.{Shape}
+use Rattle.model.specs.declared.Vector.{Vector}
 use Rattle.model.specs.Shape.{pendingBytes}
 use Rattle.model.specs.World.{World, Endpoint, registers, worldOf, functionOf, endpointOf, withWaiting}
 use Rattle.model.specs.Vectors.{modeOf, isOpen, waits, vectorCount, vectorOf, changeWaiting}
 use Rattle.model.specs.Packets.{message, messageSize, messageOf}
-use Rattle.model.specs.Release.{Raised, raiseVector, raisedBy, isPin}
+use Rattle.model.specs.Release.{Raised, raiseVector, raisedBy}
 use Rattle.model.specs.Sound.{shape}
 use Rattle.model.specs.Calls.{event, accepted, raiseOf, performed}
 use Rattle.model.proofs.Calls.CallLaws.{room-short, room-fits}
@@ -29,6 +31,9 @@ use Rattle.model.proofs.Vectors.WaitingLaws.{change-pin, change-msi, change-msi
 use Rattle.model.proofs.Vectors.EventLaws.{vector-counted}
 use Rattle.model.proofs.Calls.EventCalls as EventCalls
 use Rattle.model.proofs.Calls.EventCalls.{event-room, raised-lost, raised-vector}
+use Rattle.vectors.specs.declared.event.Meant.{Meant}
+use Rattle.vectors.specs.declared.event.Meant.the-variants.{Nothing, One}
+use Rattle.vectors.specs.Mapping.{vectorIn}
 use Rattle.vectors.proofs.CountLaws.{msi-count, pending-inside}
 use Rattle.card.specs.declared.outcome.Outcome.{Outcome}
 use Rattle.card.specs.Outcomes.{refusedWith, acceptedWith, after}
@@ -133,14 +138,24 @@ module _ (card : Card) (t p out : List ℕ) (k : Profile) (r : Running card t p 
   event-is : (x : Raised) → raisedBy (shape (on .endpoint)) (on .endpoint) e ≡ x → raiseOf on x out ≡ performed on (event e out)
   event-is x q = ap (λ (y : Raised). raiseOf on y out) (sym q) ∙ sym (event-room on e out (r .isSound) h)
 
-  pub event-lost : (b : Bool) (a : Outcome) → b ≡ isPin (k .mode) → b ≡ true → a ≡ acceptedWith card Lost 0 → after a t p out ≡ performed on (event e out)
-  event-lost b a eb q ea =
-      ap (λ (x : Outcome). after x t p out) ea ∙ quiet on (on .endpoint) Lost out
-      ∙ event-is _ (raised-lost (k .mode) (shape (on .endpoint)) (on .endpoint) e mode-now (sym eb ∙ q))
+  -- what the code finds that the event means
+  module _ (m : Meant) (em : vectorIn m ≡ vectorOf (k .mode) (k .shape) (registers (on .endpoint)) e) where
+    meant : (x : Option ℕ) → vectorIn m ≡ x → vectorOf (k .mode) (shape (on .endpoint)) (registers (on .endpoint)) e ≡ x
+    meant x q = rw (← r .shaped) (sym em ∙ q)
 
-  module _ (b : Bool) (v : ℕ) (eb : b ≡ isPin (k .mode)) (q : b ≡ false) (ev : v ≡ vectorOf (k .mode) (k .shape) (registers (on .endpoint)) e) where
-    pub event-vector-counted : v < vectorCount (k .mode) (k .shape)
-    event-vector-counted = rw (ev, r .shaped) (vector-counted (k .mode) (on .endpoint) e (running-endpoint r) h mode-now (sym eb ∙ q))
+    pub event-lost : m ≡ Nothing → (a : Outcome) → a ≡ acceptedWith card Lost 0 → after a t p out ≡ performed on (event e out)
+    unfolding vectorIn
+    event-lost q a ea =
+        ap (λ (x : Outcome). after x t p out) ea ∙ quiet on (on .endpoint) Lost out
+        ∙ event-is _ (raised-lost (k .mode) (shape (on .endpoint)) (on .endpoint) e mode-now (meant none (ap vectorIn q)))
 
-    pub event-raised : raiseOf on (raiseVector (k .mode) (k .shape) (on .endpoint) v) out ≡ performed on (event e out)
-    event-raised = rw (ev, r .shaped) (event-is _ (raised-vector (k .mode) (shape (on .endpoint)) (on .endpoint) e mode-now (sym eb ∙ q)))
+    module _ (v : Vector) (q : m ≡ One v) where
+      this : vectorOf (k .mode) (shape (on .endpoint)) (registers (on .endpoint)) e ≡ some (v .0)
+      unfolding vectorIn
+      this = meant (some (v .0)) (ap vectorIn q)
+
+      pub event-vector-counted : v .0 < vectorCount (k .mode) (k .shape)
+      event-vector-counted = rw (r .shaped) (vector-counted (k .mode) (on .endpoint) e (v .0) (running-endpoint r) h mode-now this)
+
+      pub event-raised : raiseOf on (raiseVector (k .mode) (k .shape) (on .endpoint) (v .0)) out ≡ performed on (event e out)
+      event-raised = rw (r .shaped) (event-is _ (raised-vector (k .mode) (shape (on .endpoint)) (on .endpoint) e mode-now (v .0) this))

@@ -23,6 +23,8 @@ use model::Mode;
 use model::Profile;
 use model::Shape;
 use model::Vector;
+use vectors::event::Meant;
+use vectors::event::event_vector;
 
 // What became of an event: its answer or refusal; how many bytes were sent; and MSI's waiting bits after it.
 pub struct Fate {
@@ -139,15 +141,15 @@ pub fn event_core(
         };
     }
     let mode = k.mode;
-    if vectors::mode::is_pin(mode) {
-        return Fate {
+    let meant = event_vector(config, k.shape, mode, Event(number));
+    match meant {
+        Meant::Nothing => Fate {
             answer: Answer::Lost,
             count: 0,
             waiting,
-        };
+        },
+        Meant::One(v) => raise(config, requester, waiting, k, v, table, pending, out),
     }
-    let v = vectors::event::event_vector(config, k.shape, mode, Event(number));
-    raise(config, requester, waiting, k, v, table, pending, out)
 }
 
 pub fn event(card: Card, table: &[u8], pending: &mut [u8], number: u16, out: &mut [u8]) -> Outcome

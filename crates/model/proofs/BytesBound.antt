@@ -2,6 +2,7 @@
 use mathlib.Core.Path.{_≡_, ap₂, _∙_, subst}
 use mathlib.Core.Bool.{Bool, true, false, _&&_}
 use mathlib.Core.List.{List}
+use mathlib.Core.Option.{Option, none, some}
 use Prim.Native.Nat.{ℕ, _+_, _*_, _/_, _≤_}
 use native.Mathlib.Omega.{arith}
 use lib.ListN.{length, length-append}
@@ -64,15 +65,14 @@ vector-raised m u v =
     cond-elim (λ (r : Raised). length (r .bytes) ≤ 20) (isOpen m (shape u) (registers u) v) (λ _. vector-le m (shape u) (u .function .requester) (registers u) v)
     (λ _. cond-elim (λ (r : Raised). length (r .bytes) ≤ 20) (waits m u v) (λ _. omega arith) (λ _. omega arith))
 
-raised-le : (m : Mode) (u : Endpoint) (e : ℕ) → length (raise m (shape u) u e .bytes) ≤ 20
+raised-le : (m : Mode) (u : Endpoint) (x : Option ℕ) → length (raise m (shape u) u x .bytes) ≤ 20
 unfolding raise
-raised-le Pin u e = omega arith
-raised-le Msi u e = vector-raised Msi u (vectorOf Msi (shape u) (registers u) e)
-raised-le Msix u e = vector-raised Msix u (vectorOf Msix (shape u) (registers u) e)
+raised-le m u none = omega arith
+raised-le m u (some v) = vector-raised m u v
 
 event-le : (u : Endpoint) (e : ℕ) → length (raisedBy (shape u) u e .bytes) ≤ 20
 unfolding raisedBy
-event-le u e = raised-le (modeOf (shape u) (registers u)) u e
+event-le u e = raised-le (modeOf (shape u) (registers u)) u (vectorOf (modeOf (shape u) (registers u)) (shape u) (registers u) e)
 
 -- ---- every call
 

@@ -19,8 +19,8 @@ use Rattle.model.specs.declared.Mode.the-variants.{Msix}
 use Rattle.model.specs.declared.Shape.{Shape}
 use Rattle.model.specs.World.{Endpoint, registers, withRegisters}
 use Rattle.model.specs.Registers.{configWritten, entryZero}
-use Rattle.model.specs.Vectors.{commandBit, msixControlBit, modeOf, sameMode, inForce, enabled, masked, entryMasked, isOpen, pendingBit, waits, vectorCount, owed}
-use Rattle.model.specs.Packets.{message, entryMessage, messageOf}
+use Rattle.model.specs.Vectors.{commandBit, msixControlBit, modeOf, sameMode, inForce, enabled, masked, isOpen, pendingBit, waits, vectorCount, owed}
+use Rattle.model.specs.Packets.{message, messageOf}
 use Rattle.model.specs.Release.{wireChange, wireDueOf, bytesFor, sweepBytes, settleBytes}
 use Rattle.model.specs.Start.{given, startRefusal}
 use Rattle.model.specs.Sound.{shape, sound, zeroBits}
@@ -144,7 +144,7 @@ bus-master = refl
 
 module _ (v : ℕ) (h : v < 2048) where
   unmasked : masked Msix s (registers u) v ≡ false
-  unfolding computed masked entryMasked longestEntry
+  unfolding computed longestEntry
   unmasked = sym (entry-masked longestEntry (longestTable 2048) v (entry-byte 2048 v h) s (u .function .config))
 
   waiting : waits Msix u v ≡ true
@@ -154,8 +154,8 @@ module _ (v : ℕ) (h : v < 2048) where
       ∙ lt-ltb (v % 8) 8 (mod-lt v (omega arith))
 
   message-size : length (messageOf Msix s (u .function .requester) (registers u) v) ≡ 20
-  unfolding computed messageOf entryMessage message longestEntry
-  message-size = ap length (sym (entry-message longestEntry (longestTable 2048) v (entry-byte 2048 v h) s (u .function .config) 0x100))
+  unfolding computed messageOf message longestEntry
+  message-size = ap length (sym (entry-message longestEntry (longestTable 2048) v (entry-byte 2048 v h) 0x100))
 
 -- ---- what it sends
 

@@ -30,7 +30,7 @@ unfolding
     Registers.msixWritable Registers.inMsi Registers.inMsix Registers.writable Registers.storedZero Registers.fixedByte Registers.entryWritable Registers.entryZero
     Registers.written Registers.shown Registers.inRegion Registers.inTable Registers.inPending Registers.barByte Registers.startedConfig Registers.startedTable
     Vectors.commandBit Vectors.msiControlBit Vectors.msixControlBit Vectors.enableField Vectors.modeOf Vectors.sameMode Vectors.inForce Vectors.granted Vectors.entryMasked
-    Vectors.masked Vectors.enabled Vectors.isOpen Vectors.vectorOf Vectors.pendingBit Vectors.waits Vectors.changeWaiting Vectors.vectorCount Vectors.owed
+    Vectors.masked Vectors.enabled Vectors.isOpen Vectors.vectorOf Vectors.means Vectors.pendingBit Vectors.waits Vectors.changeWaiting Vectors.vectorCount Vectors.owed
     Packets.message Packets.wireMessage Packets.msiAddress Packets.msiUpper Packets.msiData Packets.entryMessage Packets.messageOf
     Release.pinNumber Release.isPin Release.levelDue Release.wireDue Release.wireChange Release.clearAll Release.sweptFor Release.bytesFor Release.owedNow Release.swept
     Release.sweepBytes Release.settleBytes Release.raiseVector Release.raise Release.raisedBy

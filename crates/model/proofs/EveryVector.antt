@@ -1,8 +1,9 @@
 -- Document 01, "What demand 3 compares": a vector is an MSI-X one below N or an MSI one below 32. Those are all that demand 3 has to speak of:
 -- whatever an event of a sound card means is one of them, and nothing else waits. Assumes nothing.
-use mathlib.Core.Path.{_≡_, sym, _∙_}
+use mathlib.Core.Path.{_≡_, refl, sym, _∙_}
 use mathlib.Core.Bool.{true, false, true≢false, false≢true}
 use mathlib.Core.Logic.{_↔_}
+use mathlib.Core.Option.{Option, none, some, Option·getD, Option·map, Option·some-ne-none}
 use Prim.Native.Nat.{ℕ, _<_}
 use native.Mathlib.Omega.{arith}
 use lib.Dec.{ltb}
@@ -13,7 +14,7 @@ use Rattle.model.specs.declared.Mode.{Mode}
 use Rattle.model.specs.declared.Mode.the-variants.{Pin, Msi, Msix}
 use Rattle.model.specs.declared.Shape.{Shape}
 use Rattle.model.specs.Shape.{shapeOf, msiVectors}
-use Rattle.model.specs.World.{World, Endpoint, registers}
+use Rattle.model.specs.World.{World, Endpoint, Registers, registers}
 use Rattle.model.specs.Vectors.{modeOf, vectorOf, vectorCount, waits}
 use Rattle.model.specs.Release.{isPin}
 use Rattle.model.specs.Start.{Given}
@@ -43,14 +44,28 @@ counted Pin g k v h = absurd (omega arith)
 counted Msi g k v h = lt-ltb v 32 (omega (arith, few-msi g k))
 counted Msix g k v h = lt-ltb v (shapeOf (g .config) .msix .vectors) h
 
--- an event that the card has means a vector, or the pin is in force
-pub event-vector : (w : World) → sound w ≡ true → (m : Mode) → modeOf (shape (w .endpoint)) (registers (w .endpoint)) ≡ m → isPin m ≡ false
+-- none is meant under the pin alone
+none-pin : (m : Mode) (s : Shape) (r : Registers) (e : ℕ) → vectorOf m s r e ≡ none → isPin m ≡ true
+unfolding vectorOf isPin
+none-pin Pin s r e n = refl
+none-pin Msi s r e n = absurd (Option·some-ne-none _ n)
+none-pin Msix s r e n = absurd (Option·some-ne-none e n)
+
+-- an event that the card has means a vector, or none with the pin in force
+pub event-vector : (w : World) → sound w ≡ true → (m : Mode) → modeOf (shape (w .endpoint)) (registers (w .endpoint)) ≡ m
     → (e : ℕ) → e < w .endpoint .function .events
-    → isVector (shape (w .endpoint)) m (vectorOf m (shape (w .endpoint)) (registers (w .endpoint)) e) ≡ true
-event-vector w s m q p e h =
-    let u : Endpoint = w .endpoint in
-    let k : SoundEndpoint u = is-sound w s .endpoint in
-    counted m (givenOf u) (accepts (givenOf u) (k .start)) (vectorOf m (shape u) (registers u) e) (vector-counted m u e k h q p)
+    → Option·getD (Option·map (isVector (shape (w .endpoint)) m) (vectorOf m (shape (w .endpoint)) (registers (w .endpoint)) e)) (isPin m) ≡ true
+event-vector w s m q e h = go (vectorOf m (shape u) (registers u) e) refl
+  where
+    u : Endpoint
+    u = w .endpoint
+
+    k : SoundEndpoint u
+    k = is-sound w s .endpoint
+
+    go : (x : Option ℕ) → vectorOf m (shape u) (registers u) e ≡ x → Option·getD (Option·map (isVector (shape u) m) x) (isPin m) ≡ true
+    go none n = none-pin m (shape u) (registers u) e n
+    go (some v) n = counted m (givenOf u) (accepts (givenOf u) (k .start)) v (vector-counted m u e v k h q n)
 
 waits-counted : (m : Mode) (u : Endpoint) → SoundEndpoint u → (v : ℕ) → waits m u v ≡ true → v < vectorCount m (shape u)
 unfolding waits vectorCount

@@ -6,7 +6,7 @@ use mathlib.Core.List.{List, [], _∷_, foldl}
 use mathlib.Core.Logic.{_⊎_}
 use mathlib.Core.Option.{Option, none, some, Option·getD, Option·map}
 use Prim.Native.Nat.{ℕ, _-_, _<_}
-use lib.Dec.{ltb, eqb}
+use lib.Dec.{ltb}
 use lib.ListN.{length}
 use Rattle.words.specs.Lists.{within, eachAt}
 use Rattle.words.specs.Bits.{bit, merge}
@@ -19,7 +19,7 @@ use Rattle.model.specs.Answers.{isAccepted}
 use Rattle.model.specs.Shape.{shapeOf}
 use Rattle.model.specs.Registers.{writable, entryWritable, inTable, startedConfig, startedTable}
 use Rattle.model.specs.World.{World, Registers}
-use Rattle.model.specs.Vectors.{inForce, isOpen, vectorOf}
+use Rattle.model.specs.Vectors.{inForce, isOpen, means}
 use Rattle.model.specs.Start.{Given}
 use Rattle.model.specs.Calls.{Call, configRead, configWrite, barRead, barWrite, event, line, reset, save, Outcome, step}
 use Rattle.model.specs.Trials.{wroteBytes}
@@ -157,7 +157,7 @@ unfoldable pub meansBy : Given → Past → Mode → ℕ → ℕ → Bool
 meansBy g past m v e =
     let s : Shape = shapeOf (g .config) in
     let r : Registers = registersBy g past in
-    inForce m s r && eqb (vectorOf m s r e) v
+    inForce m s r && means m s r e v
 
 -- a call is an event for that vector
 unfoldable pub isEventFor : Given → Past → Mode → ℕ → Call → Bool

@@ -1,6 +1,7 @@
 -- The wire as it should be, an event, and what is sent after every accepted write, line call or event. Assumes nothing.
 use mathlib.Core.Bool.{Bool, true, false, not, cond, _&&_, Bool·beq}
 use mathlib.Core.List.{List, [], _∷_, _++_}
+use mathlib.Core.Option.{Option, none, some}
 use Prim.Native.Nat.{ℕ}
 use lib.Dec.{eqb}
 use Rattle.words.specs.Lists.{join}
@@ -88,11 +89,12 @@ raiseVector m s u v =
     (record { endpoint = u; bytes = []; answer = Merged })
     (record { endpoint = changeWaiting setBit m u v; bytes = []; answer = Held }))
 
--- the pin in force: lost, nothing kept
-unfoldable pub raise : Mode → Shape → Endpoint → ℕ → Raised
-raise Pin s u e = record { endpoint = u; bytes = []; answer = Lost }
-raise Msi s u e = raiseVector Msi s u (vectorOf Msi s (registers u) e)
-raise Msix s u e = raiseVector Msix s u (vectorOf Msix s (registers u) e)
+-- for the vector that it means. None, with the pin in force: lost, nothing kept
+unfoldable pub raise : Mode → Shape → Endpoint → Option ℕ → Raised
+raise m s u none = record { endpoint = u; bytes = []; answer = Lost }
+raise m s u (some v) = raiseVector m s u v
 
 unfoldable pub raisedBy : Shape → Endpoint → ℕ → Raised
-raisedBy s u e = raise (modeOf s (registers u)) s u e
+raisedBy s u e =
+    let m : Mode = modeOf s (registers u) in
+    raise m s u (vectorOf m s (registers u) e)

@@ -1,8 +1,9 @@
 -- Document 01, "Who is open": the mechanism in force, granted, open, and the waiting bits. Assumes nothing.
 use mathlib.Core.Bool.{Bool, true, false, not, cond, _&&_}
 use mathlib.Core.List.{List}
+use mathlib.Core.Option.{Option, none, some, Option·getD, Option·map}
 use Prim.Native.Nat.{ℕ, _+_, _*_, _/_, _%_, _^_, min}
-use lib.Dec.{ltb}
+use lib.Dec.{ltb, eqb}
 use lib.ListN.{set}
 use Rattle.words.specs.Lists.{keep, count}
 use Rattle.words.specs.Bits.{bit, field}
@@ -72,11 +73,15 @@ enabled Msix s r v = ltb v (s .msix .vectors) && not (msixControlBit s r 14)
 unfoldable pub isOpen : Mode → Shape → Registers → ℕ → Bool
 isOpen m s r v = inForce m s r && enabled m s r v && not (masked m s r v) && commandBit r 2
 
--- the vector that an event means
-unfoldable pub vectorOf : Mode → Shape → Registers → ℕ → ℕ
-vectorOf Pin s r e = e
-vectorOf Msi s r e = e % granted s r
-vectorOf Msix s r e = e
+-- the vector that an event means; under the pin none
+unfoldable pub vectorOf : Mode → Shape → Registers → ℕ → Option ℕ
+vectorOf Pin s r e = none
+vectorOf Msi s r e = some (e % granted s r)
+vectorOf Msix s r e = some e
+
+-- event e means vector v
+unfoldable pub means : Mode → Shape → Registers → (e v : ℕ) → Bool
+means m s r e v = Option·getD (Option·map (λ x. eqb x v) (vectorOf m s r e)) false
 
 -- ---- waiting bits: MSI's in the card's state, MSI-X's in the pending array
 

@@ -3,5 +3,6 @@ pub mod FormLaws
 pub mod CountLaws
 pub mod MsiLaws
 pub mod MsixLaws
+pub mod EntryLaws
 pub mod OpenLaws
 pub mod MessageLaws

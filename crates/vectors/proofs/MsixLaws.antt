@@ -1,24 +1,14 @@
 -- The open vectors of MSI-X. Assumes nothing.
-use mathlib.Core.Path.{_≡_, refl, sym, ap, _∙_}
+use mathlib.Core.Path.{_≡_, refl, sym, _∙_}
 use mathlib.Core.Bool.{Bool, true, false, not, _&&_, and-false, and-true}
-use Prim.Native.Nat.{ℕ, _+_, _*_, _%_, _≤_, _<_}
-use native.Mathlib.Nat.{add-zero}
-use lib.Dec.{ltb, eqb}
+use Prim.Native.Nat.{ℕ, _≤_, _<_}
+use lib.Dec.{ltb}
 use borrow.Author.Tests.{lt-ltb, le-ltb}
-use Rattle.words.specs.Bits.{bit}
-use Rattle.words.specs.Bytes.{byte, bitAt}
-use Rattle.words.proofs.BitLaws.{bit-zero}
 use Rattle.model.specs.declared.Mode.the-variants.{Msix}
 use Rattle.model.specs.declared.Shape.{Shape}
 use Rattle.model.specs.World.{Registers}
-use Rattle.model.specs.Vectors.{masked, enabled, inForce, msixControlBit, commandBit, isOpen, entryMasked}
+use Rattle.model.specs.Vectors.{masked, enabled, inForce, msixControlBit, commandBit, isOpen}
 use Rattle.vectors.specs.Enabled.{msixEnabled}
-
--- the mask bit of an entry
-pub entry-mask : (s : Shape) (r : Registers) (v : ℕ) → eqb (byte (r .table) (16 * v + 12) % 2) 1 ≡ masked Msix s r v
-unfolding masked bitAt entryMasked
-entry-mask s r v =
-    sym (bit-zero (byte (r .table) (16 * v + 12))) ∙ ap (λ (i : ℕ). bit (byte (r .table) i) 0) (sym (add-zero (16 * v + 12)))
 
 -- the parts of an open vector in another order
 swap : (a b c d e : Bool) → (a && (b && c) && d && e) ≡ (a && c && e && b && d)

@@ -1,9 +1,10 @@
--- The vector that an event means, from the mechanism and the number of MSI vectors granted. Assumes nothing.
-use Prim.Native.Nat.{ℕ, _%_}
-use Rattle.model.specs.declared.Mode.{Mode}
-use Rattle.model.specs.declared.Mode.the-variants.{Pin, Msi, Msix}
+-- What an event means, as the code says it. Assumes nothing.
+use mathlib.Core.Option.{Option, none, some}
+use Prim.Native.Nat.{ℕ}
+use Rattle.vectors.specs.declared.event.Meant.{Meant}
+use Rattle.vectors.specs.declared.event.Meant.the-variants.{Nothing, One}
 
-unfoldable pub vectorBy : Mode → (granted : ℕ) → ℕ → ℕ
-vectorBy Pin granted e = e
-vectorBy Msi granted e = e % granted
-vectorBy Msix granted e = e
+-- the number of the vector that is meant
+unfoldable pub vectorIn : Meant → Option ℕ
+vectorIn Nothing = none
+vectorIn (One v) = some (v .0)

@@ -2,6 +2,7 @@
 pub mod mode; // control bits and the mechanism in force
 pub mod granted; // the vectors that MSI is granted
 pub mod event; // from events to vectors
+pub mod entry; // one entry of the MSI-X table
 pub mod pin; // the pin number
 pub mod msi; // the open vectors of MSI
 pub mod msix; // the open vectors of MSI-X

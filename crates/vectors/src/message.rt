@@ -10,6 +10,8 @@ ghost use Rattle.model.specs.Packets.{message, messageSize, messageOf, entryMes
 ghost use Rattle.model.specs.Fit.{FitShape};
 ghost use Rattle.vectors.specs.Given.{regs, Profiled};
 ghost use Rattle.vectors.specs.Messages.{msiBase};
+ghost use Rattle.vectors.specs.Entries.{messageIn};
+use crate::entry::entry_of;
 use crate::granted::granted;
 use model::Form;
 use model::Mode;
@@ -71,17 +73,24 @@ pub fn msi_message(c: &[u8; 256], s: Shape, f: Form, v: Vector) -> Message
     }
 }
 
+// From the 16 bytes of an entry of the MSI-X table: address, upper address, data.
+pub fn entry_message(entry: &[u8]) -> Message
+    requires { ⌜ length (now entry) ≡ 16 ⌝ }
+    ensures { λ r. ⌜ r ≡ messageIn (now (entry .entry)) ⌝ }
+{
+    Message {
+        address: words::get::word32(entry, 0),
+        upper: words::get::word32(entry, 4),
+        value: words::get::word32(entry, 8),
+    }
+}
+
 pub fn msix_message(table: &[u8], v: Vector) -> Message
     requires { ⌜ 16 * v .0 + 16 ≤ length (now table) ⌝ }
     ensures { λ r. ⌜ ((s : Shape) (requester : ℕ) (c : List ℕ)
         → message requester (r .upper) (r .address) (r .value) ≡ messageOf Mode.Msix s requester (regs c (now (table .entry))) (v .0)) ⌝ }
 {
-    let at = 16 * (v.0 as usize);
-    Message {
-        upper: words::get::word32(table, at + 4),
-        address: words::get::word32(table, at),
-        value: words::get::word32(table, at + 8),
-    }
+    entry_message(entry_of(table, v.0 as usize))
 }
 
 // Of a vector of the mechanism in force.
@@ -114,9 +123,6 @@ pub fn put_entry(out: &mut [u8], table: &[u8], v: usize, requester: u16) -> usiz
     requires { ⌜ (v < length (now table) / 16) × (length (entryMessage requester (now table) v) ≤ length (now out)) ⌝ }
     ensures { λ r. ⌜ Wrote (entryMessage requester (now (table .entry)) v) (now (out .entry)) r (now (out .exit)) ⌝ }
 {
-    let at = 16 * v;
-    let address = words::get::word32(table, at);
-    let upper = words::get::word32(table, at + 4);
-    let value = words::get::word32(table, at + 8);
-    tlp::put_message(out, requester, upper, address, value)
+    let m = entry_message(entry_of(table, v));
+    put_vector_message(out, requester, m)
 }

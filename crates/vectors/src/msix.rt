@@ -1,13 +1,15 @@
 // The open vectors of MSI-X.
 ghost use mathlib.Core.Path.{_≡_};
 ghost use mathlib.Core.List.{List};
-ghost use Prim.Native.Nat.{ℕ, _+_, _*_, _≤_};
+ghost use Prim.Native.Nat.{ℕ};
 ghost use lib.ListN.{length};
 ghost use Rattle.model.specs.Shape.{tableBytes};
-ghost use Rattle.model.specs.Vectors.{masked, isOpen};
+ghost use Rattle.model.specs.Vectors.{isOpen};
 ghost use Rattle.model.specs.Fit.{FitShape};
 ghost use Rattle.vectors.specs.Given.{regs, InForce};
 ghost use Rattle.vectors.specs.Enabled.{msixEnabled};
+use crate::entry::entry_masked;
+use crate::entry::entry_of;
 use crate::mode::command_bit;
 use crate::mode::msix_control_bit;
 use model::Mode;
@@ -25,14 +27,6 @@ pub fn msix_enabled(c: &[u8; 256], s: Shape) -> bool
     command_bit(c, 2)
 }
 
-// The mask bit of entry v.
-pub fn entry_masked(table: &[u8], v: usize) -> bool
-    requires { ⌜ 16 * v + 16 ≤ length (now table) ⌝ }
-    ensures { λ r. ⌜ ((s : Shape) (c : List ℕ) → r ≡ masked Mode.Msix s (regs c (now (table .entry))) v) ⌝ }
-{
-    table[16 * v + 12] % 2 == 1
-}
-
 // Vector v is open.
 pub fn msix_is_open(c: &[u8; 256], s: Shape, table: &[u8], v: Vector) -> bool
     requires { ⌜ FitShape s × (length (now table) ≡ tableBytes s) × InForce Mode.Msix s (now c) ⌝ }
@@ -42,7 +36,7 @@ pub fn msix_is_open(c: &[u8; 256], s: Shape, table: &[u8], v: Vector) -> bool
     if s.msix.vectors <= n {
         return false;
     }
-    if entry_masked(table, n) {
+    if entry_masked(entry_of(table, n)) {
         return false;
     }
     msix_enabled(c, s)

@@ -66,9 +66,6 @@ cond-twice false b f x e = refl
 
 -- ---- tests of numbers
 
-pub one-of : {P : Type 0} (n a : ℕ) (rest : Bool) → (eqb n a || rest) ≡ true → (n ≡ a → P) → (rest ≡ true → P) → P
-one-of n a rest e f g = by-test (eqb n a) (λ t. f (eqb-true n a t)) (λ t. g (rw t at e))
-
 -- a place from lo on that is not below hi
 pub not-between : (lo hi k : ℕ) → (leb lo k && ltb k hi) ≡ false → lo ≤ k → hi ≤ k
 not-between lo hi k e h = ltb-false k hi (second-false (leb lo k) (ltb k hi) (le-leb lo k h) e)

@@ -3,7 +3,7 @@ use mathlib.Core.Path.{_≡_, refl, sym, ap, ap₂, _∙_, subst}
 use mathlib.Core.Bool.{Bool, true, false, cond, _&&_, _||_, false≢true, and-assoc, and-false, or-true}
 use mathlib.Core.List.{List, [], _∷_, _++_, map, append-assoc, append-nil}
 use Prim.Native.Nat.{ℕ, zero, suc, _+_, _-_, _*_, _%_, _≤_, _<_}
-use native.Mathlib.Nat.{zero-add, mul-suc}
+use native.Mathlib.Nat.{zero-add, mul-suc, mod-lt, dvd-of-mod-eq-zero, dvd-mod-iff, dvd-sub, le-of-dvd}
 use native.Mathlib.Numerals.{add-one}
 use native.Mathlib.Omega.{arith}
 use lib.Dec.{ltb, leb, eqb}
@@ -56,6 +56,14 @@ within-shift a lo n k =
     same-test (within lo n k) (within (a + lo) n (a + k))
     (λ e. let t = within-true lo n k e in true-within (a + lo) n (a + k) (omega arith) (omega arith))
     (λ e. let t = within-true (a + lo) n (a + k) e in true-within lo n k (omega arith) (omega arith))
+
+-- n places from a multiple of n on cross no multiple of m, if n divides m
+pub multiple-inside : (o n m : ℕ) → 0 < m → m % n ≡ 0 → o % n ≡ 0 → o % m + n ≤ m
+multiple-inside o n m h d e =
+    let a = dvd-of-mod-eq-zero n d in
+    let b = dvd-mod-iff n a .1 (dvd-of-mod-eq-zero n e) in
+    let r : o % m < m = mod-lt o h in
+    omega (arith, le-of-dvd (omega arith) (dvd-sub n a b))
 
 -- n places from o on that cross no multiple of 8, and m places from a on, both multiples of 8: they lie inside or outside whole
 module _ (o n : ℕ) (w : o % 8 + n ≤ 8) (a m : ℕ) (ha : a % 8 ≡ 0) (hm : m % 8 ≡ 0) where

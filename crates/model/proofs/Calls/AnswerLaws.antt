@@ -1,6 +1,7 @@
 -- The answers of accepted calls, and the numbers of each answer. Assumes nothing.
 use mathlib.Core.Path.{_≡_, refl, sym, ap₂, _∙_}
 use mathlib.Core.Bool.{Bool, true, false, true≢false, false≢true, _&&_}
+use mathlib.Core.Option.{Option, none, some}
 use Prim.Native.Nat.{ℕ, zero, suc}
 use lib.Dec.{eqb}
 use borrow.Author.Tests.{eqb-true}
@@ -8,7 +9,6 @@ use Rattle.words.proofs.BoolLaws.{both, by-test, cond-elim}
 use Rattle.model.specs.declared.Answer.{Answer}
 use Rattle.model.specs.declared.Answer.the-variants.{Refused, Done, Value, Sent, Held, Merged, Lost}
 use Rattle.model.specs.declared.Mode.{Mode}
-use Rattle.model.specs.declared.Mode.the-variants.{Pin, Msi, Msix}
 use Rattle.model.specs.declared.Shape.{Shape}
 use Rattle.model.specs.Answers.{refusalOf, valueOf, eventCode, isAccepted, kindOf, detailOf, sameAnswer}
 use Rattle.model.specs.World.{Endpoint, registers}
@@ -49,17 +49,16 @@ pub record OfEvent (P : Answer → Type 0) : Type 0 where
 
 raised-answer : (P : Answer → Type 0) → OfEvent P → (s : Shape) (u : Endpoint) (e : ℕ) → P (raisedBy s u e .answer)
 unfolding raisedBy raise raiseVector
-raised-answer P p s u e = go (modeOf s (registers u))
+raised-answer P p s u e = go (modeOf s (registers u)) (vectorOf (modeOf s (registers u)) s (registers u) e)
   where
     vector : (m : Mode) (v : ℕ) → P (raiseVector m s u v .answer)
     vector m v =
         cond-elim (λ (r : Raised). P (r .answer)) (isOpen m s (registers u) v) (λ _. p .sent)
         (λ _. cond-elim (λ (r : Raised). P (r .answer)) (waits m u v) (λ _. p .merged) (λ _. p .held))
 
-    go : (m : Mode) → P (raise m s u e .answer)
-    go Pin = p .lost
-    go Msi = vector Msi (vectorOf Msi s (registers u) e)
-    go Msix = vector Msix (vectorOf Msix s (registers u) e)
+    go : (m : Mode) (x : Option ℕ) → P (raise m s u x .answer)
+    go m none = p .lost
+    go m (some v) = vector m v
 
 -- a value, an event's answer, or done
 answer-elim : (P : Answer → Type 0) (u : Endpoint) (c : Call) → (hasValue c ≡ true → (x : ℕ) → P (Value x)) → (isEvent c ≡ true → OfEvent P) → P Done

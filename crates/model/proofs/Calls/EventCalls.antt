@@ -1,19 +1,19 @@
 -- An event: its refusal, what it raises, and that nothing follows its own packet. Assumes nothing.
-use mathlib.Core.Path.{_≡_, refl, ap, _∙_}
-use mathlib.Core.Bool.{true, false, true≢false, false≢true}
+use mathlib.Core.Path.{_≡_, ap, _∙_}
+use mathlib.Core.Bool.{true, false}
 use mathlib.Core.List.{List, [], _++_, append-nil}
+use mathlib.Core.Option.{Option, none, some}
 use Prim.Native.Nat.{ℕ, _≤_, _<_}
 use borrow.Author.Tests.{le-leb, lt-leb}
 use Rattle.words.specs.Lists.{firstOf}
 use Rattle.words.specs.Bits.{setBit}
 use Rattle.model.specs.declared.Answer.the-variants.{Sent, Held, Merged, Lost}
 use Rattle.model.specs.declared.Mode.{Mode}
-use Rattle.model.specs.declared.Mode.the-variants.{Pin, Msi, Msix}
 use Rattle.model.specs.declared.Shape.{Shape}
 use Rattle.model.specs.World.{World, Endpoint, registers}
 use Rattle.model.specs.Vectors.{modeOf, isOpen, waits, vectorOf, changeWaiting}
 use Rattle.model.specs.Packets.{messageOf}
-use Rattle.model.specs.Release.{Raised, raise, raiseVector, raisedBy, isPin}
+use Rattle.model.specs.Release.{Raised, raise, raiseVector, raisedBy}
 use Rattle.model.specs.Sound.{shape, sound}
 use Rattle.model.specs.Calls.{event, rows, changed, next, sends, answerOf, ifRoom, raiseOf, performed}
 use Rattle.model.proofs.Sound.SoundLaws.{is-sound}
@@ -64,24 +64,16 @@ module _ (m : Mode) (s : Shape) (u : Endpoint) (v : ℕ) where
     unfolding raiseVector
     raised-held e = rw (shut, e)
 
-lost : (m : Mode) (s : Shape) (u : Endpoint) (e : ℕ) → isPin m ≡ true → raise m s u e ≡ record { endpoint = u; bytes = []; answer = Lost }
-unfolding isPin raise
-lost Pin s u e q = refl
-lost Msi s u e q = absurd (false≢true q)
-lost Msix s u e q = absurd (false≢true q)
-
-by-vector : (m : Mode) (s : Shape) (u : Endpoint) (e : ℕ) → isPin m ≡ false → raise m s u e ≡ raiseVector m s u (vectorOf m s (registers u) e)
-unfolding isPin raise
-by-vector Pin s u e q = absurd (true≢false q)
-by-vector Msi s u e q = refl
-by-vector Msix s u e q = refl
-
 -- with the mechanism m in force
 module _ (m : Mode) (s : Shape) (u : Endpoint) (e : ℕ) (f : modeOf s (registers u) ≡ m) where
-  pub raised-lost : isPin m ≡ true → raisedBy s u e ≡ record { endpoint = u; bytes = []; answer = Lost }
+  raised-meant : (x : Option ℕ) → vectorOf m s (registers u) e ≡ x → raisedBy s u e ≡ raise m s u x
   unfolding raisedBy
-  raised-lost q = ap (λ (n : Mode). raise n s u e) f ∙ lost m s u e q
+  raised-meant x q = ap (λ (n : Mode). raise n s u (vectorOf n s (registers u) e)) f ∙ ap (raise m s u) q
 
-  pub raised-vector : isPin m ≡ false → raisedBy s u e ≡ raiseVector m s u (vectorOf m s (registers u) e)
-  unfolding raisedBy
-  raised-vector q = ap (λ (n : Mode). raise n s u e) f ∙ by-vector m s u e q
+  pub raised-lost : vectorOf m s (registers u) e ≡ none → raisedBy s u e ≡ record { endpoint = u; bytes = []; answer = Lost }
+  unfolding raise
+  raised-lost q = raised-meant none q
+
+  pub raised-vector : (v : ℕ) → vectorOf m s (registers u) e ≡ some v → raisedBy s u e ≡ raiseVector m s u v
+  unfolding raise
+  raised-vector v q = raised-meant (some v) q

@@ -4,7 +4,6 @@ use mathlib.Core.Bool.{Bool, true, false, not, _&&_, _||_, false≢true, or-fals
 use mathlib.Core.List.{List, _∷_}
 use mathlib.Core.Option.{none}
 use Prim.Native.Nat.{ℕ, _/_, _%_, _<_}
-use lib.Dec.{eqb}
 use lib.ListN.{length}
 use borrow.Author.Tests.{not-true}
 use Rattle.words.proofs.BoolLaws.{both}
@@ -19,7 +18,7 @@ use Rattle.model.specs.Answers.{isAccepted}
 use Rattle.model.specs.Shape.{shapeOf}
 use Rattle.model.specs.Registers.{configWritten, barWritten}
 use Rattle.model.specs.World.{World, Endpoint, Registers, registers}
-use Rattle.model.specs.Vectors.{inForce, isOpen, waits, vectorOf, pendingBit}
+use Rattle.model.specs.Vectors.{inForce, isOpen, waits, means, pendingBit}
 use Rattle.model.specs.Release.{raisedBy, settled, isPin}
 use Rattle.model.specs.Start.{Given, startRefusal}
 use Rattle.model.specs.Sound.{sound, shape}
@@ -84,11 +83,11 @@ module _ (g : Given) (ok : startRefusal g ≡ 0) (m : Mode) (v : ℕ) (r : Run) 
 
   -- an event: held exactly if it is for the vector and the vector is shut
   held-now : (e : ℕ) (out : List ℕ) (a : Answer) → isAccepted a ≡ true
-      → (inForce m (shape u) (registers u) && eqb (vectorOf m (shape u) (registers u) e) v && not (isOpen m (shape u) (registers u) v))
+      → (inForce m (shape u) (registers u) && means m (shape u) (registers u) e v && not (isOpen m (shape u) (registers u) v))
       ≡ heldBy g m v (entryOf (event e out) a bytes) (r .past)
   unfolding heldBy isEventFor meansBy openBy
   held-now e out a t =
-      ap₂ (λ (s : Shape) (q : Registers). inForce m s q && eqb (vectorOf m s q e) v && not (isOpen m s q v)) (shape-now g r i ok) (i .same)
+      ap₂ (λ (s : Shape) (q : Registers). inForce m s q && means m s q e v && not (isOpen m s q v)) (shape-now g r i ok) (i .same)
       ∙ ap (λ (b : Bool). b && meansBy g (r .past) m v e && not (openBy g (r .past) m v)) (sym t)
 
   held-shut : (x : Entry) → heldBy g m v x (r .past) ≡ true → openBy g (r .past) m v ≡ false

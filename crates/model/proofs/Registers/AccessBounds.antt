@@ -9,6 +9,13 @@ use Rattle.model.specs.declared.Shape.{Shape}
 use Rattle.model.specs.Registers.{inTable, inPending}
 use Rattle.model.specs.Calls.{badConfig, badBar}
 
+-- a width is not 0, if its test f says so
+pub width-positive : (f : ℕ → Bool) → f 0 ≡ false → (n : ℕ) (r : Bool) → r ≡ f n → not r ≡ false → 0 < n
+width-positive f z n r e h = omega (arith, positive)
+  where
+    positive : n ≡ 0 → ⊥
+    positive q = false≢true (sym z ∙ sym (ap f q) ∙ sym e ∙ not-false r h)
+
 -- ---- 3
 
 -- a width of 1, 2 or 4 bytes
@@ -28,10 +35,6 @@ module _ (o n : ℕ) (r : Bool) (e : r ≡ isWidth n) where
   pub above : not r ≡ false → o % n ≡ 0 → ltb 255 o ≡ badConfig o n
   unfolding badConfig
   above h m = rw (← e, not-false r h, eq-eqb (o % n) 0 m)
-
-pub zero-width : (o n : ℕ) → n ≡ 0 → true ≡ badConfig o n
-unfolding badConfig
-zero-width o n e = rw e
 
 -- ---- 4
 
@@ -61,10 +64,3 @@ module _ (s : Shape) (b o n : ℕ) (r : Bool) (l : b ≤ 5) (e : r ≡ isBarWidt
   pub bar-pending : (i j : Bool) → not r ≡ false → o % n ≡ 0 → i ≡ inTable s b o → i ≡ false → j ≡ inPending s b o → not j ≡ badBar s b o n
   unfolding badBar
   bar-pending i j h m d f g = rw (le-ltb 5 b l, ← e, not-false r h, eq-eqb (o % n) 0 m, ← d, f, g)
-
--- neither width is 0
-pub bar-width-positive : (n : ℕ) (r : Bool) → r ≡ isBarWidth n → not r ≡ false → 0 < n
-bar-width-positive n r e h = omega (arith, positive)
-  where
-    positive : n ≡ 0 → ⊥
-    positive z = false≢true (sym (ap isBarWidth z) ∙ sym e ∙ not-false r h)

@@ -10,7 +10,7 @@ use Rattle.model.specs.declared.Mode.the-variants.{Msix}
 use Rattle.model.specs.declared.Shape.{Shape}
 use Rattle.model.specs.Registers.{entryWritable}
 use Rattle.model.specs.Vectors.{masked, entryMasked}
-use Rattle.model.specs.Packets.{messageOf, entryMessage}
+use Rattle.model.specs.Packets.{message, entryMessage}
 
 -- the same bits of every entry are writable
 pub entry-writable : (q i : ℕ) → entryWritable (16 * q + i) ≡ entryWritable i
@@ -19,7 +19,7 @@ entry-writable q i = let e : (16 * q + i) % 16 ≡ i % 16 = omega arith in rw e
 
 -- e holds the 16 bytes of entry v of table t
 module _ (e t : List ℕ) (v : ℕ) (same : (i : ℕ) → i < 16 → byte e i ≡ byte t (16 * v + i)) where
-  pub entry-masked : (s : Shape) (c : List ℕ) → masked Msix s (record { config = c; table = e }) 0 ≡ masked Msix s (record { config = c; table = t }) v
+  pub entry-masked : (s : Shape) (c : List ℕ) → bitAt e 12 0 ≡ masked Msix s (record { config = c; table = t }) v
   unfolding masked bitAt entryMasked
   entry-masked s c =
       let a : 16 * v + 12 ≡ 16 * v + 12 + 0 = omega arith in
@@ -31,9 +31,8 @@ module _ (e t : List ℕ) (v : ℕ) (same : (i : ℕ) → i < 16 → byte e i �
       number-shift (byte e) (byte t) i (16 * v + i) 4
       (λ k l. let a : 16 * v + (i + k) ≡ 16 * v + i + k = omega arith in same (i + k) (omega arith) ∙ ap (byte t) a)
 
-  pub entry-message : (s : Shape) (c : List ℕ) (requester : ℕ)
-      → messageOf Msix s requester (record { config = c; table = e }) 0 ≡ messageOf Msix s requester (record { config = c; table = t }) v
-  unfolding messageOf entryMessage
-  entry-message s c requester =
+  pub entry-message : (requester : ℕ) → message requester (word32 e 4) (word32 e 0) (word32 e 8) ≡ entryMessage requester t v
+  unfolding entryMessage
+  entry-message requester =
       let a : 16 * v + 0 ≡ 16 * v = omega arith in
       rw (word-same 4 (omega arith), word-same 0 (omega arith), word-same 8 (omega arith), a)

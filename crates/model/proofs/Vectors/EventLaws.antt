@@ -1,7 +1,8 @@
 -- An event on a sound card: which vector it means, and that nothing is owed after it. Assumes nothing.
 use mathlib.Core.Path.{_≡_, refl, sym, ap, ap₂, _∙_}
-use mathlib.Core.Bool.{Bool, true, false, cond, _&&_, _||_, true≢false, and-false}
+use mathlib.Core.Bool.{Bool, true, false, cond, _&&_, _||_, and-false}
 use mathlib.Core.List.{List, [], _++_}
+use mathlib.Core.Option.{Option, none, some, Option·none-ne-some, Option·some-injective}
 use Prim.Native.Nat.{ℕ, _^_, _≤_, _<_, min}
 use native.Mathlib.Nat.{mod-lt, min-le-right}
 use native.Mathlib.Omega.{arith}
@@ -19,7 +20,7 @@ use Rattle.model.specs.declared.Shape.{Shape}
 use Rattle.model.specs.Shape.{msiPresent, msixPresent, msiVectors}
 use Rattle.model.specs.World.{World, Endpoint, Registers, registers}
 use Rattle.model.specs.Vectors.{waits, isOpen, changeWaiting, owed, vectorCount, vectorOf, granted, modeOf, enableField, msixControlBit, msiControlBit, pendingBit}
-use Rattle.model.specs.Release.{Raised, raise, raiseVector, raisedBy, swept, owedNow, clearAll, settleBytes, sweepBytes, wireChange, wireDue, wireDueOf, settled, isPin, sweptFor, bytesFor}
+use Rattle.model.specs.Release.{Raised, raise, raiseVector, raisedBy, swept, owedNow, clearAll, settleBytes, sweepBytes, wireChange, wireDue, wireDueOf, settled, sweptFor, bytesFor}
 use Rattle.model.specs.Sound.{givenOf, shape}
 use Rattle.model.proofs.Vectors.WaitingLaws.{InRange, OnlyWaiting, only-refl, only-registers, change-only, waits-set}
 use Rattle.model.proofs.Vectors.SweepLaws.{msi-present}
@@ -48,16 +49,16 @@ unfolding granted
 granted-le s r = pow-mono (min-le-right (enableField s r) (s .msi .capable))
 
 -- it is one of the card's
-pub vector-counted : (m : Mode) (u : Endpoint) (e : ℕ) → SoundEndpoint u → e < u .function .events → modeOf (shape u) (registers u) ≡ m → isPin m ≡ false
-    → vectorOf m (shape u) (registers u) e < vectorCount m (shape u)
-unfolding vectorOf vectorCount msiVectors isPin
-vector-counted Pin u e k h q n = absurd (true≢false n)
-vector-counted Msi u e k h q n =
+pub vector-counted : (m : Mode) (u : Endpoint) (e v : ℕ) → SoundEndpoint u → e < u .function .events → modeOf (shape u) (registers u) ≡ m
+    → vectorOf m (shape u) (registers u) e ≡ some v → v < vectorCount m (shape u)
+unfolding vectorOf vectorCount msiVectors
+vector-counted Pin u e v k h q n = absurd (Option·none-ne-some v n)
+vector-counted Msi u e v k h q n =
     rw (msi-present (shape u) (registers u) q)
-    (omega (arith, mod-lt e (granted-pos (shape u) (registers u)), granted-le (shape u) (registers u)))
-vector-counted Msix u e k h q n =
+    (omega (arith, Option·some-injective _ _ n, mod-lt e (granted-pos (shape u) (registers u)), granted-le (shape u) (registers u)))
+vector-counted Msix u e v k h q n =
     let f = events-fit (u .function .events) (shape u) (accepts (givenOf u) (k .start) .events) in
-    omega (arith, f .2 (msix-present (shape u) (registers u) q))
+    omega (arith, Option·some-injective e v n, f .2 (msix-present (shape u) (registers u) q))
 
 -- ---- what a sound card owes
 
@@ -161,22 +162,18 @@ pub record Raises (u u′ : Endpoint) : Type 0 where
   pub quiet : owedNow (shape u) u′ ≡ []
 
 module _ (u : Endpoint) (k : SoundEndpoint u) (e : ℕ) (h : e < u .function .events) where
-  vector-raises : (m : Mode) → modeOf (shape u) (registers u) ≡ m → isPin m ≡ false → Raises u (raiseVector m (shape u) u (vectorOf m (shape u) (registers u) e) .endpoint)
-  vector-raises m q n =
-      let v : ℕ = vectorOf m (shape u) (registers u) e in
-      let l = vector-counted m u e k h q n in
+  -- x is what it means
+  meant-raises : (m : Mode) (x : Option ℕ) → modeOf (shape u) (registers u) ≡ m → vectorOf m (shape u) (registers u) e ≡ x → Raises u (raise m (shape u) u x .endpoint)
+  unfolding raise
+  meant-raises m none q n = record { only = only-refl u; ready = ready u k; quiet = k .quiet }
+  meant-raises m (some v) q n =
+      let l = vector-counted m u e v k h q n in
       let c = raised-kept m u v in
       record { only = kept-only m u v _ c; ready = kept-ready m u v k q l _ c; quiet = kept-quiet m u v k q l _ c }
 
-  mode-raises : (m : Mode) → modeOf (shape u) (registers u) ≡ m → Raises u (raise m (shape u) u e .endpoint)
-  unfolding raise isPin
-  mode-raises Pin q = record { only = only-refl u; ready = ready u k; quiet = k .quiet }
-  mode-raises Msi q = vector-raises Msi q refl
-  mode-raises Msix q = vector-raises Msix q refl
-
   pub event-raises : Raises u (raisedBy (shape u) u e .endpoint)
   unfolding raisedBy
-  event-raises = mode-raises (modeOf (shape u) (registers u)) refl
+  event-raises = meant-raises (modeOf (shape u) (registers u)) _ refl refl
 
 -- so nothing follows the event's own packet, and the wire stays
 module _ (w : World) (k : Sound w) (e : ℕ) (h : e < w .endpoint .function .events) where

@@ -1,6 +1,7 @@
 -- What an event leaves waiting. Assumes nothing.
 use mathlib.Core.Path.{_≡_, refl, sym, ap, _∙_}
 use mathlib.Core.Bool.{Bool, true, false, not, _&&_, _||_, or-false, or-true}
+use mathlib.Core.Option.{Option, none, some}
 use Prim.Native.Nat.{ℕ}
 use lib.Dec.{eqb}
 use borrow.Author.Tests.{eq-eqb, ne-eqb, eqb-true, eqb-false}
@@ -10,7 +11,7 @@ use Rattle.model.specs.declared.Mode.{Mode}
 use Rattle.model.specs.declared.Mode.the-variants.{Pin, Msi, Msix}
 use Rattle.model.specs.declared.Shape.{Shape}
 use Rattle.model.specs.World.{Endpoint, Registers, registers}
-use Rattle.model.specs.Vectors.{modeOf, sameMode, inForce, isOpen, waits, vectorOf}
+use Rattle.model.specs.Vectors.{modeOf, sameMode, inForce, isOpen, waits, vectorOf, means}
 use Rattle.model.specs.Release.{Raised, raiseVector, raise, raisedBy, isPin}
 use Rattle.model.proofs.Vectors.WaitingLaws.{InRange, OnlyWaiting, only-refl, change-only, waits-set, waits-apart}
 use Rattle.model.proofs.Vectors.SweepLaws.{in-force}
@@ -64,41 +65,45 @@ vector-apart m n s u x v a =
 
 pub raised-only : (s : Shape) (u : Endpoint) (e : ℕ) → OnlyWaiting u (raisedBy s u e .endpoint)
 unfolding raisedBy raise
-raised-only s u e = go (modeOf s (registers u))
+raised-only s u e = go (modeOf s (registers u)) (vectorOf (modeOf s (registers u)) s (registers u) e)
   where
-    go : (n : Mode) → OnlyWaiting u (raise n s u e .endpoint)
-    go Pin = only-refl u
-    go Msi = vector-only Msi s u (vectorOf Msi s (registers u) e)
-    go Msix = vector-only Msix s u (vectorOf Msix s (registers u) e)
+    go : (n : Mode) (x : Option ℕ) → OnlyWaiting u (raise n s u x .endpoint)
+    go n none = only-refl u
+    go n (some x) = vector-only n s u x
+
+-- an event that means x means no other vector
+means-one : (m : Mode) (s : Shape) (r : Registers) (e x v : ℕ) → vectorOf m s r e ≡ some x → means m s r e v ≡ eqb x v
+unfolding means
+means-one m s r e x v k = rw k
 
 -- after event e a vector of MSI or MSI-X waits if it did, or was meant by e and shut
 pub raised-waits : (m : Mode) (s : Shape) (u : Endpoint) (e v : ℕ) → isPin m ≡ false
-    → ((n : Mode) → modeOf s (registers u) ≡ n → isPin n ≡ false → InRange n u (vectorOf n s (registers u) e))
+    → ((n : Mode) (x : ℕ) → modeOf s (registers u) ≡ n → vectorOf n s (registers u) e ≡ some x → InRange n u x)
     → waits m (raisedBy s u e .endpoint) v
-    ≡ (waits m u v || (inForce m s (registers u) && eqb (vectorOf m s (registers u) e) v && not (isOpen m s (registers u) v)))
-unfolding raisedBy raise inForce isPin sameMode
+    ≡ (waits m u v || (inForce m s (registers u) && means m s (registers u) e v && not (isOpen m s (registers u) v)))
+unfolding raisedBy raise vectorOf inForce isPin sameMode
 raised-waits m s u e v p h = go (modeOf s (registers u)) refl
   where
     r : Registers
     r = registers u
 
     Q : Mode → Type 0
-    Q n = waits m (raise n s u e .endpoint) v ≡ (waits m u v || (sameMode m n && eqb (vectorOf m s r e) v && not (isOpen m s r v)))
+    Q n = waits m (raise n s u (vectorOf n s r e) .endpoint) v ≡ (waits m u v || (sameMode m n && means m s r e v && not (isOpen m s r v)))
 
     not-pin : (m : Mode) → isPin m ≡ false → sameMode m Pin ≡ false
     not-pin Pin q = q
     not-pin Msi q = refl
     not-pin Msix q = refl
 
-    -- the vector of the mechanism n
-    vector : (n : Mode) → modeOf s r ≡ n → isPin n ≡ false
-        → waits m (raiseVector n s u (vectorOf n s r e) .endpoint) v ≡ (waits m u v || (sameMode m n && eqb (vectorOf m s r e) v && not (isOpen m s r v)))
-    vector n q k =
+    -- the event means vector x of the mechanism n
+    vector : (n : Mode) (x : ℕ) → modeOf s r ≡ n → vectorOf n s r e ≡ some x
+        → waits m (raiseVector n s u x .endpoint) v ≡ (waits m u v || (sameMode m n && means m s r e v && not (isOpen m s r v)))
+    vector n x q k =
         by-test (sameMode m n)
-        (λ f. let j : n ≡ m = in-force m n f in rw (f, ← j) (vector-waits n s u (vectorOf n s r e) v (h n q k)))
-        (λ f. rw (f, or-false) (vector-apart m n s u (vectorOf n s r e) v f))
+        (λ f. let j : n ≡ m = in-force m n f in rw (f, ← j, means-one n s r e x v k) (vector-waits n s u x v (h n x q k)))
+        (λ f. rw (f, or-false) (vector-apart m n s u x v f))
 
     go : (n : Mode) → modeOf s r ≡ n → Q n
     go Pin q = rw (not-pin m p, or-false)
-    go Msi q = vector Msi q refl
-    go Msix q = vector Msix q refl
+    go Msi q = vector Msi _ q refl
+    go Msix q = vector Msix _ q refl

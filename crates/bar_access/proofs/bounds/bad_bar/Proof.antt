@@ -1,5 +1,6 @@
 -- One law for each way out. Assumes nothing.
-use Rattle.model.proofs.Registers.AccessBounds.{bar-above, bar-width, bar-multiple, bar-table, bar-pending, bar-width-positive}
+use mathlib.Core.Path.{refl}
+use Rattle.model.proofs.Registers.AccessBounds.{isBarWidth, width-positive, bar-above, bar-width, bar-multiple, bar-table, bar-pending}
 use borrow.Author.Needs.{needs}
 use Rattle.bar_access.proofs.bounds.bad_bar.Statement.{statement}
 use Rattle.bar_access.proofs.bounds.bad_bar.Tie as tie
@@ -11,7 +12,7 @@ returns-2 : tie.Need-returns-2
 returns-2 c = bar-width _ _ _ _ _ (c .before .before .if1 .left) (c .before .is-bar-width .ensures) (c .if2 .taken)
 
 rem-if3 : tie.Need-rem-if3
-rem-if3 c = bar-width-positive _ _ (c .before .is-bar-width .ensures) (c .if2 .left)
+rem-if3 c = width-positive isBarWidth refl _ _ (c .before .is-bar-width .ensures) (c .if2 .left)
 
 returns-3 : tie.Need-returns-3
 returns-3 c =

@@ -25,7 +25,7 @@ returns-3 c =
     let at-entry-masked = c .before in
     let at-is-msix = at-entry-masked .before .before .before .before in
     let start = at-is-msix .before .before .before in
-    λ u t same. owed-masked _ _ (start .pre .0) t (now (start .args .pending)) u _ _ same (sym (at-entry-masked .entry-masked .ensures _ _) ∙ c .if3 .taken)
+    λ u t same. owed-masked _ _ (start .pre .0) t (now (start .args .pending)) u _ _ same (sym (at-entry-masked .entry-masked .ensures) ∙ c .if3 .taken)
 
 msix-enabled-requires : tie.Need-msix-enabled-requires
 msix-enabled-requires c κs =
@@ -44,7 +44,7 @@ returns-4 c =
     let start = at-is-msix .before .before .before in
     λ u t same. c .msix-enabled .ensures t
     ∙ owed-open _ _ (start .pre .0) t _ u _ _ same (sym (at-waits .waits .ensures u) ∙ not-false _ (at-if2 .if2 .left))
-    (sym (at-entry-masked .entry-masked .ensures _ _) ∙ at-if3 .if3 .left) (start .pre .1)
+    (sym (at-entry-masked .entry-masked .ensures) ∙ at-if3 .if3 .left) (start .pre .1)
 
 pub is-owed-spec : {M : Type 1} → statement M
 is-owed-spec =

@@ -1,3 +1,4 @@
+-- One way out for each width. Assumes nothing.
 use borrow.Author.Tests.{eq-eqb, ne-eqb}
 use Rattle.config_access.proofs.bounds.is_config_width.Statement.{statement}
 use Rattle.config_access.proofs.bounds.is_config_width.Tie as tie

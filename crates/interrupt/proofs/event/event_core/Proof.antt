@@ -23,53 +23,50 @@ returns c =
     let start = c .before .before .before .before in
     λ z l y k. core-row (card-of start z l y) _ _ _ 2 _ (event-refused _ _ _ (c .if1 .taken)) refl refl
 
-returns-2 : tie.Need-returns-2
-returns-2 c =
-    let at-is-pin = c .before in
-    let at-if1 = at-is-pin .before in
-    let start = at-if1 .before .before .before .before in
-    λ z l y k. event-lost (card-of start z l y) _ _ _ _ k _ (at-if1 .if1 .left) _ _ (at-is-pin .is-pin .ensures) (c .if2 .taken) refl
-
 event-vector-requires : tie.Need-event-vector-requires
 event-vector-requires c κs =
-    let at-is-pin = c .before in
-    let start = at-is-pin .before .before .before .before .before in
+    let start = c .before .before .before .before in
     start .pre .runs .profiled .fits
+
+returns-2 : tie.Need-returns-2
+returns-2 c =
+    let at-event-vector = c .before .before in
+    let at-if1 = at-event-vector .before in
+    let start = at-if1 .before .before .before .before in
+    λ z l y k.
+    event-lost (card-of start z l y) _ _ _ _ k _ (at-if1 .if1 .left) _ (at-event-vector .event-vector .ensures _) (c .enum-told .given .1) _ refl
 
 raise-requires : tie.Need-raise-requires
 raise-requires c κs =
-    let at-event-vector = c .before .before in
-    let at-if2 = at-event-vector .before in
-    let at-is-pin = at-if2 .before in
-    let at-if1 = at-is-pin .before in
+    let at-meant = c .before .before .before in
+    let at-event-vector = at-meant .before .before in
+    let at-if1 = at-event-vector .before in
     let start = at-if1 .before .before .before .before in (
       start .pre .runs .profiled,
       running-fit (start .pre .runs),
-      event-vector-counted _ _ _ (now (start .args .out)) _ (start .pre .runs) _ (at-if1 .if1 .left) _ _ (at-is-pin .is-pin .ensures) (at-if2 .if2 .left)
-          (at-event-vector .event-vector .ensures _),
+      event-vector-counted _ _ _ (now (start .args .out)) _ (start .pre .runs) _ (at-if1 .if1 .left) _ (at-event-vector .event-vector .ensures _) _
+          (at-meant .meant .given .1),
     )
 
 returns-3 : tie.Need-returns-3
 returns-3 c =
     let at-raise = c .before .before .before .before in
-    let at-event-vector = at-raise .before .before .before in
-    let at-if2 = at-event-vector .before in
-    let at-is-pin = at-if2 .before in
-    let at-if1 = at-is-pin .before in
+    let at-meant = at-raise .before .before .before .before in
+    let at-event-vector = at-meant .before .before in
+    let at-if1 = at-event-vector .before in
     let start = at-if1 .before .before .before .before in
     λ z l y k.
     at-raise .raise .ensures z _ l y
-    ∙ event-raised (card-of start z l y) _ _ _ _ k _ (at-if1 .if1 .left) _ _ (at-is-pin .is-pin .ensures) (at-if2 .if2 .left)
-    (at-event-vector .event-vector .ensures _)
+    ∙ event-raised (card-of start z l y) _ _ _ _ k _ (at-if1 .if1 .left) _ (at-event-vector .event-vector .ensures _) _ (at-meant .meant .given .1)
 
 pub event-core-spec : {M : Type 1} → statement M
 event-core-spec =
     tie.close
     (tie.spec
     returns
-    (λ c κs. search needs)
-    returns-2
     event-vector-requires
+    (λ c. search needs) (λ c. search needs)
     raise-requires
+    returns-2
     (λ c. search needs) (λ c. search needs)
     returns-3)
