@@ -6,10 +6,9 @@ use mathlib.Core.Logic.{_↔_}
 use Prim.Native.Nat.{ℕ}
 use lib.ListN.{length, take}
 use Rattle.model.specs.declared.Mode.{Mode}
-use Rattle.model.specs.Shape.{shapeOf}
 use Rattle.model.specs.Start.{Given, given}
 use Rattle.model.specs.Calls.{Call, Operation, call, start, save, restore}
-use Rattle.model.specs.History.{registersBy, WaitsBy, isVector}
+use Rattle.model.specs.History.{registersBy, WaitsBy}
 use Rattle.capi.specs.Crossing.{Crossed, crossed}
 use Rattle.capi.specs.Hosts.{Held, heldOf, Lent, heldAfter, crossings, HostRun, hostRun, waitingBit, registersIn}
 
@@ -27,7 +26,7 @@ Remembers card table pending config sizes events requester =
     started .refusal ≡ 0 → (calls : List (Lent Call))
     → let r : HostRun = hostRun (heldBy started) calls in
     (registersIn (r .held) ≡ registersBy g (r .past))
-    × ((m : Mode) (v : ℕ) → isVector (shapeOf config) m v ≡ true → (waitingBit m (r .held) v ≡ true) ↔ WaitsBy g m v (r .past))
+    × ((m : Mode) (v : ℕ) → (waitingBit m (r .held) v ≡ true) ↔ WaitsBy g m v (r .past))
 
 -- A save that returns 0, then any list of calls, starts and restores among them, each with any lengths, then a restore of exactly the bytes that the
 -- save wrote, over the same buffers: it returns 0, every byte of card, table and pending array is as it was at the save, and every list of calls that

@@ -6,16 +6,13 @@ use mathlib.Core.Logic.{_↔_}
 use Prim.Native.Nat.{ℕ}
 use Rattle.words.proofs.BoolLaws.{neither, or-intro}
 use Rattle.model.specs.declared.Mode.{Mode}
-use Rattle.model.specs.declared.Mode.the-variants.{Pin, Msi, Msix}
-use Rattle.model.specs.declared.Shape.{Shape}
+use Rattle.model.specs.declared.Mode.the-variants.{Msi}
 use Rattle.model.specs.Answers.{isAccepted}
-use Rattle.model.specs.Shape.{shapeOf}
 use Rattle.model.specs.World.{World, registers}
 use Rattle.model.specs.Vectors.{waits}
-use Rattle.model.specs.Release.{isPin}
 use Rattle.model.specs.Start.{Given, startRefusal}
 use Rattle.model.specs.Calls.{Call, Outcome, startedWorld, startGiven, startOf, start, operate}
-use Rattle.model.specs.History.{Entry, Past, Run, called, run, registersBy, resets, openBy, heldBy, clearedBy, WaitsBy, isVector}
+use Rattle.model.specs.History.{Entry, Past, Run, called, run, registersBy, resets, openBy, heldBy, clearedBy, WaitsBy}
 use Rattle.model.proofs.History.Machine.{bit-iff, list-keeps}
 use Rattle.model.proofs.Calls.CallLaws.{answered-elim}
 use Rattle.model.proofs.Sound.StartLaws.{started-sound, started-waits}
@@ -24,14 +21,8 @@ use Rattle.model.proofs.History.HistoryCalls.{Good}
 use Rattle.model.proofs.History.HistoryReset.{started-registers}
 use Rattle.model.proofs.History.HistoryLaw.{call-law}
 
-not-pin : (s : Shape) (m : Mode) (v : ℕ) → isVector s m v ≡ true → isPin m ≡ false
-unfolding isVector isPin
-not-pin s Pin v e = absurd (false≢true e)
-not-pin s Msi v e = refl
-not-pin s Msix v e = refl
-
 -- the bit is not cleared: no accepted reset, and the vector is not left open
-cleared-not : (g : Given) (m : Mode) (v : ℕ) (x : Entry) (before : Past)
+pub cleared-not : (g : Given) (m : Mode) (v : ℕ) (x : Entry) (before : Past)
     → (clearedBy g m v x before ≡ false) ↔ ((resets x ≡ false) × (openBy g (x ∷ before) m v ≡ false))
 unfolding clearedBy
 cleared-not g m v x before = (neither (resets x) (openBy g (x ∷ before) m v), λ p. or-intro (resets x) (openBy g (x ∷ before) m v) (p .0) (p .1))
@@ -40,13 +31,13 @@ cleared-not g m v x before = (neither (resets x) (openBy g (x ∷ before) m v), 
 pub started-good : (g : Given) → startRefusal g ≡ 0 → Good g (record { world = startedWorld g; past = [] })
 started-good g ok = record { isSound = started-sound g ok; same = started-registers g ∙ sym (registers-none g) }
 
-from-start : (g : Given) → startRefusal g ≡ 0 → (calls : List Call) (m : Mode) (v : ℕ) → isPin m ≡ false
+from-start : (g : Given) → startRefusal g ≡ 0 → (calls : List Call) (m : Mode) (v : ℕ)
     → (waits m (run (startedWorld g) calls .world .endpoint) v ≡ true) ↔ WaitsBy g m v (run (startedWorld g) calls .past)
 unfolding run startedWorld
-from-start g ok calls m v p =
+from-start g ok calls m v =
     bit-iff called (λ r. r .past) (λ r. waits m (r .world .endpoint) v) (Good g) (heldBy g m v) (clearedBy g m v)
     (λ x before. (resets x ≡ false) × (openBy g (x ∷ before) m v ≡ false)) (λ x before. cleared-not g m v x before)
-    (λ r c i. call-law g ok m v r i p c)
+    (λ r c i. call-law g ok m v r i c)
     (record { world = startedWorld g; past = [] })
     (started-good g ok)
     refl (started-waits g ok m v) calls
@@ -66,15 +57,15 @@ start-elim w₀ config sizes events requester P f =
 -- and no later call left it open. What was in force, granted and open is read off the start's input and the calls with their answers
 pub waiting-history : (w₀ : World) (config sizes : List ℕ) (events requester : ℕ)
     → isAccepted (operate w₀ (start config sizes events requester) .answer) ≡ true
-    → (calls : List Call) (m : Mode) (v : ℕ) → isVector (shapeOf config) m v ≡ true
+    → (calls : List Call) (m : Mode) (v : ℕ)
     → let g : Given = startGiven (w₀ .endpoint) config sizes events requester in
     let r : Run = run (operate w₀ (start config sizes events requester) .world) calls in
     (waits m (r .world .endpoint) v ≡ true) ↔ WaitsBy g m v (r .past)
-waiting-history w₀ config sizes events requester a calls m v e =
+waiting-history w₀ config sizes events requester a calls m v =
     let g : Given = startGiven (w₀ .endpoint) config sizes events requester in
     start-elim w₀ config sizes events requester
     (λ (w : World). (waits m (run w calls .world .endpoint) v ≡ true) ↔ WaitsBy g m v (run w calls .past))
-    (λ z. from-start g z calls m v (not-pin (shapeOf config) m v e)) a
+    (λ z. from-start g z calls m v) a
 
 -- and the card's registers are those that the history gives
 pub registers-history : (w₀ : World) (config sizes : List ℕ) (events requester : ℕ)
@@ -82,8 +73,8 @@ pub registers-history : (w₀ : World) (config sizes : List ℕ) (events request
     → let g : Given = startGiven (w₀ .endpoint) config sizes events requester in
     let r : Run = run (operate w₀ (start config sizes events requester) .world) calls in
     registers (r .world .endpoint) ≡ registersBy g (r .past)
-unfolding run isPin
+unfolding run
 registers-history w₀ config sizes events requester a calls =
     let g : Given = startGiven (w₀ .endpoint) config sizes events requester in
     start-elim w₀ config sizes events requester (λ (w : World). registers (run w calls .world .endpoint) ≡ registersBy g (run w calls .past))
-    (λ z. list-keeps called (Good g) (λ r c i. call-law g z Msi 0 r i refl c .good) (record { world = startedWorld g; past = [] }) calls (started-good g z) .same) a
+    (λ z. list-keeps called (Good g) (λ r c i. call-law g z Msi 0 r i c .good) (record { world = startedWorld g; past = [] }) calls (started-good g z) .same) a

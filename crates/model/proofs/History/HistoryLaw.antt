@@ -19,7 +19,7 @@ use Rattle.model.specs.Shape.{shapeOf}
 use Rattle.model.specs.Registers.{configWritten, barWritten}
 use Rattle.model.specs.World.{World, Endpoint, Registers, registers}
 use Rattle.model.specs.Vectors.{inForce, isOpen, waits, means, pendingBit}
-use Rattle.model.specs.Release.{raisedBy, settled, isPin}
+use Rattle.model.specs.Release.{raisedBy, settled}
 use Rattle.model.specs.Start.{Given, startRefusal}
 use Rattle.model.specs.Sound.{sound, shape}
 use Rattle.model.specs.Calls.{Call, configRead, configWrite, barRead, barWrite, event, line, reset, save, Outcome, changed, next, answerOf, step}
@@ -96,14 +96,14 @@ module _ (g : Given) (ok : startRefusal g ≡ 0) (m : Mode) (v : ℕ) (r : Run) 
       not-true (openBy g (r .past) m v)
       (both (isAccepted (x .answer) && isEventFor g (r .past) m v (x .call)) (not (openBy g (r .past) m v)) h .1)
 
-  events : isPin m ≡ false → (e : ℕ) (out : List ℕ) (a : Answer) → isAccepted a ≡ true → e < r .world .endpoint .function .events
+  events : (e : ℕ) (out : List ℕ) (a : Answer) → isAccepted a ≡ true → e < r .world .endpoint .function .events
       → sound (settled (shape (r .world .endpoint)) (raisedBy (shape (r .world .endpoint)) (r .world .endpoint) e .endpoint)) ≡ true
       → LawOf g m v r (entered r (entryOf (event e out) a bytes)
       (settled (shape (r .world .endpoint)) (raisedBy (shape (r .world .endpoint)) (r .world .endpoint) e .endpoint)))
   unfolding isReset puts
-  events p e out a t h k =
+  events e out a t h k =
       sweeps g ok m v r i x (raisedBy (shape u) u e .endpoint) k quiet (only-registers only ∙ i .same ∙ sym kept) (only .pendingLength)
-      (raised-waits m (shape u) u e v p (event-range u e (soundness g r i) h) ∙ ap (λ (b : Bool). waits m u v || b) (held-now e out a t))
+      (raised-waits m (shape u) u e v (event-range u e (soundness g r i) h) ∙ ap (λ (b : Bool). waits m u v || b) (held-now e out a t))
       (λ t. open-same g m v (x ∷ r .past) (r .past) kept ∙ held-shut x t)
     where
       x : Entry
@@ -119,46 +119,46 @@ module _ (g : Given) (ok : startRefusal g ≡ 0) (m : Mode) (v : ℕ) (r : Run) 
       kept = registers-other g x (r .past) quiet (λ l. idle-wrote (shapeOf (g .config)) x l refl)
 
   -- every accepted call, with any answer that is no refusal
-  accepts-call : isPin m ≡ false → (c : Call) (a : Answer) → isAccepted a ≡ true → Passed (r .world) c → sound (next (r .world) c) ≡ true
+  accepts-call : (c : Call) (a : Answer) → isAccepted a ≡ true → Passed (r .world) c → sound (next (r .world) c) ≡ true
       → LawOf g m v r (entered r (entryOf c a bytes) (next (r .world) c))
   unfolding next changed isReset puts isEventFor
-  accepts-call p (configRead o n) a t z k = idles (configRead o n) a refl (λ l. refl) refl
-  accepts-call p (configWrite o n x out) a t z k =
+  accepts-call (configRead o n) a t z k = idles (configRead o n) a refl (λ l. refl) refl
+  accepts-call (configWrite o n x out) a t z k =
       writes (configWrite o n x out) a (changed u (configWrite o n x out)) k refl refl
       (ap₂ (λ (s : Shape) (q : Registers). configWritten s q o (bytesOf n x)) (shape-now g r i ok) (i .same)
       ∙ registers-configWrite g (r .past) a t out bytes o n x)
       refl (waits-kept m u (changed u (configWrite o n x out)) v refl refl)
-  accepts-call p (barRead b o n) a t z k = idles (barRead b o n) a refl (λ l. refl) refl
-  accepts-call p (barWrite b o n x out) a t z k =
+  accepts-call (barRead b o n) a t z k = idles (barRead b o n) a refl (λ l. refl) refl
+  accepts-call (barWrite b o n x out) a t z k =
       writes (barWrite b o n x out) a (changed u (barWrite b o n x out)) k refl refl
       (ap₂ (λ (s : Shape) (q : Registers). barWritten s q b o (bytesOf n x)) (shape-now g r i ok) (i .same)
       ∙ registers-barWrite g (r .past) a t out bytes b o n x)
       refl (waits-kept m u (changed u (barWrite b o n x out)) v refl refl)
-  accepts-call p (event e out) a t z k = events p e out a t (event-below u e out (z .own)) k
-  accepts-call p (line level out) a t z k =
+  accepts-call (event e out) a t z k = events e out a t (event-below u e out (z .own)) k
+  accepts-call (line level out) a t z k =
       writes (line level out) a (changed u (line level out)) k refl refl
       (i .same ∙ sym (registers-other g x (r .past) (idle-resets x refl) (λ l. idle-wrote (shapeOf (g .config)) x l refl)))
       refl (waits-kept m u (changed u (line level out)) v refl refl)
     where
       x : Entry
       x = entryOf (line level out) a bytes
-  accepts-call p (reset out) a t z k = resetting g ok m v r i x false k (reset-resets out bytes a t) (idle-held g m v x (r .past) refl)
+  accepts-call (reset out) a t z k = resetting g ok m v r i x false k (reset-resets out bytes a t) (idle-held g m v x (r .past) refl)
     where
       x : Entry
       x = entryOf (reset out) a bytes
-  accepts-call p (save out) a t z k = idles (save out) a refl (λ l. refl) refl
+  accepts-call (save out) a t z k = idles (save out) a refl (λ l. refl) refl
 
   -- a call entered with an answer that is a refusal exactly if the card's own is
-  pub entry-law : isPin m ≡ false → (c : Call) (a : Answer) → isAccepted a ≡ isAccepted (step (r .world) c .answer)
+  pub entry-law : (c : Call) (a : Answer) → isAccepted a ≡ isAccepted (step (r .world) c .answer)
       → LawOf g m v r (entered r (entryOf c a bytes) (step (r .world) c .world))
   unfolding isAccepted
-  entry-law p c a =
+  entry-law c a =
       step-elim (r .world) c (λ (o : Outcome). isAccepted a ≡ isAccepted (o .answer) → LawOf g m v r (entered r (entryOf c a bytes) (o .world)))
       (λ z t.
-      accepts-call p c a (t ∙ answer-accepted u c) z (effect-sound w (i .isSound) (effect w c z)))
+      accepts-call c a (t ∙ answer-accepted u c) z (effect-sound w (i .isSound) (effect w c z)))
       (λ n _ t. refuses c a t)
 
 -- every call
-pub call-law : (g : Given) → startRefusal g ≡ 0 → (m : Mode) (v : ℕ) (r : Run) → Good g r → isPin m ≡ false → (c : Call) → LawOf g m v r (called r c)
+pub call-law : (g : Given) → startRefusal g ≡ 0 → (m : Mode) (v : ℕ) (r : Run) → Good g r → (c : Call) → LawOf g m v r (called r c)
 unfolding called
-call-law g ok m v r i p c = entry-law g ok m v r i (wroteBytes (step (r .world) c)) p c (step (r .world) c .answer) refl
+call-law g ok m v r i c = entry-law g ok m v r i (wroteBytes (step (r .world) c)) c (step (r .world) c .answer) refl

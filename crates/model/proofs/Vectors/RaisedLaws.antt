@@ -12,7 +12,7 @@ use Rattle.model.specs.declared.Mode.the-variants.{Pin, Msi, Msix}
 use Rattle.model.specs.declared.Shape.{Shape}
 use Rattle.model.specs.World.{Endpoint, Registers, registers}
 use Rattle.model.specs.Vectors.{modeOf, sameMode, inForce, isOpen, waits, vectorOf, means}
-use Rattle.model.specs.Release.{Raised, raiseVector, raise, raisedBy, isPin}
+use Rattle.model.specs.Release.{Raised, raiseVector, raise, raisedBy}
 use Rattle.model.proofs.Vectors.WaitingLaws.{InRange, OnlyWaiting, only-refl, change-only, waits-set, waits-apart}
 use Rattle.model.proofs.Vectors.SweepLaws.{in-force}
 
@@ -76,13 +76,13 @@ means-one : (m : Mode) (s : Shape) (r : Registers) (e x v : ℕ) → vectorOf m 
 unfolding means
 means-one m s r e x v k = rw k
 
--- after event e a vector of MSI or MSI-X waits if it did, or was meant by e and shut
-pub raised-waits : (m : Mode) (s : Shape) (u : Endpoint) (e v : ℕ) → isPin m ≡ false
+-- after event e a vector waits if it did, or was meant by e and shut
+pub raised-waits : (m : Mode) (s : Shape) (u : Endpoint) (e v : ℕ)
     → ((n : Mode) (x : ℕ) → modeOf s (registers u) ≡ n → vectorOf n s (registers u) e ≡ some x → InRange n u x)
     → waits m (raisedBy s u e .endpoint) v
     ≡ (waits m u v || (inForce m s (registers u) && means m s (registers u) e v && not (isOpen m s (registers u) v)))
-unfolding raisedBy raise vectorOf inForce isPin sameMode
-raised-waits m s u e v p h = go (modeOf s (registers u)) refl
+unfolding raisedBy raise vectorOf inForce sameMode means
+raised-waits m s u e v h = go (modeOf s (registers u)) refl
   where
     r : Registers
     r = registers u
@@ -90,10 +90,11 @@ raised-waits m s u e v p h = go (modeOf s (registers u)) refl
     Q : Mode → Type 0
     Q n = waits m (raise n s u (vectorOf n s r e) .endpoint) v ≡ (waits m u v || (sameMode m n && means m s r e v && not (isOpen m s r v)))
 
-    not-pin : (m : Mode) → isPin m ≡ false → sameMode m Pin ≡ false
-    not-pin Pin q = q
-    not-pin Msi q = refl
-    not-pin Msix q = refl
+    -- under the pin no event means a vector
+    silent : (m : Mode) → (sameMode m Pin && means m s r e v && not (isOpen m s r v)) ≡ false
+    silent Pin = refl
+    silent Msi = refl
+    silent Msix = refl
 
     -- the event means vector x of the mechanism n
     vector : (n : Mode) (x : ℕ) → modeOf s r ≡ n → vectorOf n s r e ≡ some x
@@ -104,6 +105,6 @@ raised-waits m s u e v p h = go (modeOf s (registers u)) refl
         (λ f. rw (f, or-false) (vector-apart m n s u x v f))
 
     go : (n : Mode) → modeOf s r ≡ n → Q n
-    go Pin q = rw (not-pin m p, or-false)
+    go Pin q = rw (silent m, or-false)
     go Msi q = vector Msi _ q refl
     go Msix q = vector Msix _ q refl
