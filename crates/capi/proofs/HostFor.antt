@@ -84,9 +84,9 @@ left-lengths : (h : Held) (x : Lent Operation) → SameLengths (left h x (made h
 left-lengths h x =
     let k = kept (take (x .card) (h .card)) (take (x .table) (h .table)) (take (x .pending) (h .pending)) (x .calls) in
     record {
-      card = kept-length (x .card) (h .card) _ (k .card);
-      table = kept-length (x .table) (h .table) _ (k .table);
-      pending = kept-length (x .pending) (h .pending) _ (k .pending);
+      card = kept-length (x .card) (h .card) (made h x .card) (k .card);
+      table = kept-length (x .table) (h .table) (made h x .table) (k .table);
+      pending = kept-length (x .pending) (h .pending) (made h x .pending) (k .pending);
     }
 
 pub after-lengths : (h : Held) (l : List (Lent Operation)) → SameLengths (heldAfter h l) h

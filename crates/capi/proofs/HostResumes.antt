@@ -22,7 +22,7 @@ use Rattle.model.proofs.Calls.AnswerLaws.{numbered, is-done}
 use Rattle.model.proofs.Calls.OutcomeLaws.{zero-accepted}
 use Rattle.capi.specs.Crossing.{Crossed, handed, unread, cardOver, cardAfter, back, crossed}
 use Rattle.capi.specs.Hosts.{Held, heldOf, Lent, heldAfter, crossings}
-use Rattle.capi.specs.HostClaims.{heldBy, ResumesBytes}
+use Rattle.capi.specs.HostClaims.{leftBy, ResumesBytes}
 use Rattle.capi.proofs.CardFor.{Readable, read-call}
 use Rattle.capi.proofs.CrossingFor.{stopped, restore-reads}
 use Rattle.capi.proofs.HostFor.{after-lengths}
@@ -66,33 +66,34 @@ module _ (card t p : List ℕ) (b : Bytes card) (out : List ℕ) (e : crossed ca
 
   -- the save wrote the image of the card, and left every byte
   wrote : take (saved .count) (saved .output) ≡ imageOf w
+  unfolding wroteBytes
   wrote = ap (λ (x : Crossed). take (x .count) (x .output)) crosses ∙ did .image
 
   same : cardBytes w ≡ card
   same = card-kept card b (read .size) t p (read .flags)
 
-  held : heldBy saved ≡ heldOf card t p
+  held : leftBy saved ≡ heldOf card t p
   unfolding cardAfter
   held =
-      ap heldBy crosses
+      ap leftBy crosses
       ∙ (λ i. heldOf (cardOver (refusalOf (step w (save out) .answer)) card (did .kept i)) (did .kept i .endpoint .table) (did .kept i .endpoint .pending))
       ∙ ap (λ (l : List ℕ). heldOf l t p)
       (cond-elim (λ (l : List ℕ). l ≡ card) (eqb (refusalOf (step w (save out) .answer)) 0) (λ _. same) (λ _. refl))
 
   module _ (between : List (Lent Operation)) where
     abbrev h : Held
-    h = heldAfter (heldBy saved) between
+    h = heldAfter (leftBy saved) between
 
     room : SameRoom (worldOf (cardIn (h .card)) (h .table) (h .pending)) w
     room =
-        let l = after-lengths (heldBy saved) between in
+        let l = after-lengths (leftBy saved) between in
         record {
           table = l .table ∙ ap (λ (k : Held). length (k .table)) held;
           pending = l .pending ∙ ap (λ (k : Held). length (k .pending)) held;
         }
 
     size : length (h .card) ≡ 289
-    size = after-lengths (heldBy saved) between .card ∙ ap (λ (k : Held). length (k .card)) held ∙ read .size
+    size = after-lengths (leftBy saved) between .card ∙ ap (λ (k : Held). length (k .card)) held ∙ read .size
 
     is : crossed (h .card) (h .table) (h .pending) (restore (take (saved .count) (saved .output))) ≡ handed 0 card t p [] 0 0 0
     is =
@@ -106,6 +107,6 @@ pub host-resumes : (card t p : List ℕ) → Bytes card → ResumesBytes card t 
 host-resumes card t p b out e between =
     let k = is card t p b out e between in (
       ap (λ (x : Crossed). x .refusal) k,
-      ap heldBy k,
-      λ rest. ap (λ (x : Crossed). crossings (heldBy x) rest) k,
+      ap leftBy k,
+      λ rest. ap (λ (x : Crossed). crossings (leftBy x) rest) k,
     )

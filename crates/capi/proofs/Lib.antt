@@ -5,3 +5,4 @@ pub mod StartFor
 pub mod Refused
 pub mod HostFor
 pub mod HostResumes
+pub mod HostHistory

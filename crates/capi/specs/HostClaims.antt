@@ -13,8 +13,8 @@ use Rattle.capi.specs.Crossing.{Crossed, crossed}
 use Rattle.capi.specs.Hosts.{Held, heldOf, Lent, heldAfter, crossings, HostRun, hostRun, waitingBit, registersIn}
 
 -- what a function leaves, where it was lent the whole of each buffer
-abbrev pub heldBy : Crossed → Held
-heldBy r = heldOf (r .card) (r .table) (r .pending)
+abbrev pub leftBy : Crossed → Held
+leftBy r = heldOf (r .card) (r .table) (r .pending)
 
 -- A start that returns 0, and then every list of calls, each with any lengths, those among them that return 60 or any other refusal: after it the
 -- registers in the bytes that the host holds are those of the history, and each vector's waiting bit in them is one exactly if an accepted event for
@@ -24,7 +24,7 @@ Remembers card table pending config sizes events requester =
     let started : Crossed = crossed card table pending (start config sizes events requester) in
     let g : Given = given config sizes events requester (length table) (length pending) in
     started .refusal ≡ 0 → (calls : List (Lent Call))
-    → let r : HostRun = hostRun (heldBy started) calls in
+    → let r : HostRun = hostRun (leftBy started) calls in
     (registersIn (r .held) ≡ registersBy g (r .past))
     × ((m : Mode) (v : ℕ) → (waitingBit m (r .held) v ≡ true) ↔ WaitsBy g m v (r .past))
 
@@ -36,7 +36,7 @@ ResumesBytes card table pending =
     (out : List ℕ)
     → let saved : Crossed = crossed card table pending (call (save out)) in
     saved .refusal ≡ 0 → (between : List (Lent Operation))
-    → let h : Held = heldAfter (heldBy saved) between in
+    → let h : Held = heldAfter (leftBy saved) between in
     let back : Crossed = crossed (h .card) (h .table) (h .pending) (restore (take (saved .count) (saved .output))) in
-    (back .refusal ≡ 0) × (heldBy back ≡ heldOf card table pending)
-    × ((rest : List (Lent Operation)) → crossings (heldBy back) rest ≡ crossings (heldOf card table pending) rest)
+    (back .refusal ≡ 0) × (leftBy back ≡ heldOf card table pending)
+    × ((rest : List (Lent Operation)) → crossings (leftBy back) rest ≡ crossings (heldOf card table pending) rest)

@@ -25,6 +25,14 @@ use Rattle.model.proofs.ImageExact.{length-words, words-below}
 
 -- ---- from the bytes to the card, and back
 
+pub config-in : (l : List ℕ) → cardIn l .function .config ≡ part 33 256 l
+unfolding cardIn functionFrom
+config-in l = refl
+
+pub waiting-in : (l : List ℕ) → cardIn l .function .waiting ≡ word32 l 5
+unfolding cardIn functionFrom
+waiting-in l = refl
+
 pub card-sized : (l : List ℕ) → length l ≡ 289 → (table pending : List ℕ) → Sized (worldOf (cardIn l) table pending .endpoint)
 unfolding cardIn functionFrom
 card-sized l n table pending = record { config = length-part l 33 256 (omega arith); sizes = length-words 6 (drop 9 l) }

@@ -14,7 +14,7 @@ use Rattle.model.specs.Shape.{shapeOf, msiVectors}
 use Rattle.model.specs.Registers.{startedConfig}
 use Rattle.model.specs.World.{World, Endpoint}
 use Rattle.model.specs.Release.{settled}
-use Rattle.model.specs.Start.{Given}
+use Rattle.model.specs.Start.{Given, startRefusal}
 use Rattle.model.specs.Sound.{sound, shape, givenOf}
 use Rattle.model.specs.Image.{worldIn}
 use Rattle.model.specs.Claims.{Arrays, Typed, TypedArguments, ofCall, ofStart, ofRestore}
@@ -63,6 +63,10 @@ arrays-started : (s : Shape) {config sizes : List ℕ} → Arrays config sizes �
 arrays-started s {config} a =
     record { config = length-started s config ∙ a .config; bytes = started-bytes s config (a .bytes); sizes = a .sizes; small = a .small }
 
+-- an accepted start
+pub started-typed : (g : Given) → startRefusal g ≡ 0 → Arrays (g .config) (g .sizes) → Typed (startedWorld g)
+started-typed g e a = sound-typed (startedWorld g) (started-sound g e) (arrays-started (shapeOf (g .config)) a)
+
 -- a call of a running card
 pub typed-step : (w : World) → Typed w → (c : Call) → Typed (step w c .world)
 typed-step w t c =
@@ -84,5 +88,5 @@ typed-kept w t _ (ofCall c) = typed-step w t c
 typed-kept w t _ (ofStart {config} {sizes} events requester a) =
     let g : Given = startGiven (w .endpoint) config sizes events requester in
     answered-elim _ _ _ (λ (r : Outcome). Typed (r .world))
-    (λ e. sound-typed (startedWorld g) (started-sound g e) (arrays-started (shapeOf config) a)) (λ _. zero-typed (w .endpoint))
+    (λ e. started-typed g e a) (λ _. zero-typed (w .endpoint))
 typed-kept w t _ (ofRestore {image} b) = answered-elim _ _ _ (λ (r : Outcome). Typed (r .world)) (restored-typed image _ _ b) (λ _. t)

@@ -131,6 +131,14 @@ accepted-zero Held e = refl
 accepted-zero Merged e = refl
 accepted-zero Lost e = refl
 
+pub refused-not : (n : ℕ) → isAccepted (Refused n) ≡ false
+unfolding isAccepted
+refused-not n = refl
+
+pub done-accepted : isAccepted Done ≡ true
+unfolding isAccepted
+done-accepted = refl
+
 pub not-accepted : (a : Answer) → (refusalOf a ≡ 0 → ⊥) → isAccepted a ≡ false
 not-accepted a h = by-test (isAccepted a) (λ e. absurd (h (accepted-zero a e))) (λ e. e)
 

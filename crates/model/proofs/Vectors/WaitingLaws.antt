@@ -27,6 +27,18 @@ InRange Msi u v = Unit {0}
 InRange Msix u v = v < 8 * length (u .pending)
 
 -- waiting bits are those of the state and of the pending array
+pub waits-pin : (u : Endpoint) (v : ℕ) → waits Pin u v ≡ false
+unfolding waits
+waits-pin u v = refl
+
+pub waits-msi : (u : Endpoint) (v : ℕ) → waits Msi u v ≡ bit (u .function .waiting) v
+unfolding waits
+waits-msi u v = refl
+
+pub waits-msix : (u : Endpoint) (v : ℕ) → waits Msix u v ≡ pendingBit (u .pending) v
+unfolding waits
+waits-msix u v = refl
+
 pub waits-same : (m : Mode) (u u′ : Endpoint) (v : ℕ) → u′ .function .waiting ≡ u .function .waiting → u′ .pending ≡ u .pending → waits m u′ v ≡ waits m u v
 unfolding waits pendingBit
 waits-same Pin u u′ v e p = refl

@@ -1,0 +1,269 @@
+-- Demand 3, first part, of what a host calls: after every list of calls through the interface the bytes that a host holds have the registers and the
+-- waiting bits of the history. A refused call, with 60 or any other number, leaves the bytes; an accepted one was lent the whole of each buffer, and
+-- leaves the bytes of the next card, which are read back as that card. Assumes nothing.
+use mathlib.Core.Path.{_≡_, refl, sym, ap, _∙_, subst}
+use mathlib.Core.Bool.{true, false}
+use mathlib.Core.List.{List, [], _∷_, _++_, append-nil, foldl}
+use mathlib.Core.Logic.{_↔_}
+use Prim.Native.Nat.{ℕ, _^_}
+use lib.Dec.{eqb}
+use lib.ListN.{length, take, drop, take-append-drop}
+use borrow.Author.Tests.{eq-eqb, ne-eqb, eqb-true, eqb-false}
+use Rattle.words.specs.Bits.{bit}
+use Rattle.words.specs.Bytes.{Bytes, Below}
+use Rattle.words.proofs.BoolLaws.{by-test}
+use Rattle.model.specs.declared.Card.{Card}
+use Rattle.model.specs.declared.Mode.{Mode}
+use Rattle.model.specs.declared.Mode.the-variants.{Pin, Msi, Msix}
+use Rattle.model.specs.Answers.{isAccepted}
+use Rattle.model.specs.World.{World, Endpoint, worldOf, registers}
+use Rattle.model.specs.Vectors.{waits}
+use Rattle.model.specs.Start.{Given, given, startRefusal}
+use Rattle.model.specs.Sound.{sound}
+use Rattle.model.specs.Image.{cardBytes, cardIn}
+use Rattle.model.specs.Claims.{Typed}
+use Rattle.model.specs.Calls.{Call, Outcome, Operation, call, start, step, startOf, startedWorld}
+use Rattle.model.specs.History.{Run, entryOf, registersBy, WaitsBy, resets, openBy, heldBy, clearedBy}
+use Rattle.model.proofs.CardExact.{config-in, waiting-in, card-typed, card-reads, card-bytes, card-length, card-flags}
+use Rattle.model.proofs.TypedKept.{started-typed, typed-step}
+use Rattle.model.proofs.RestoreResumes.{room-sound}
+use Rattle.model.proofs.WaitingHistory.{cleared-not, started-good}
+use Rattle.model.proofs.Refusals.{start-number}
+use Rattle.model.proofs.Sound.StartLaws.{started-waits}
+use Rattle.model.proofs.Vectors.WaitingLaws.{waits-pin, waits-msi, waits-msix}
+use Rattle.model.proofs.Calls.AnswerLaws.{refused-not, done-accepted}
+use Rattle.model.proofs.Calls.StartCalls.{start-accepted}
+use Rattle.model.proofs.Calls.OutcomeLaws.{zero-accepted, accepted-sound}
+use Rattle.model.proofs.History.Machine.{Law, bit-iff, list-keeps}
+use Rattle.model.proofs.History.HistoryCalls.{Good, entered}
+use Rattle.model.proofs.History.HistoryLaw.{entry-law, refuses}
+use Rattle.capi.specs.Crossing.{Crossed, handed, cardAfter, back, crossed}
+use Rattle.capi.specs.Hosts.{Held, heldOf, Lent, made, left, HostRun, answerOf, running, hostCalled, hostRun, waitingBit, registersIn}
+use Rattle.capi.specs.HostClaims.{leftBy, Remembers}
+use Rattle.capi.proofs.CardFor.{Readable, read-call, read-lengths}
+use Rattle.capi.proofs.HostFor.{lent-whole}
+use Rattle.capi.proofs.HostResumes.{zero-read}
+use Rattle.capi.proofs.Refused.{read-through, refused-call}
+
+-- ---- one call
+
+-- the card and the buffers in the bytes that a host holds
+abbrev worldIn : Held → World
+worldIn h = worldOf (cardIn (h .card)) (h .table) (h .pending)
+
+-- what a host holds of a world
+abbrev bytesOf : World → Held
+bytesOf w = heldOf (cardBytes w) (w .endpoint .table) (w .endpoint .pending)
+
+-- bytes of a card
+record IsCard (h : Held) : Type 0 where
+  bytes : Bytes (h .card)
+  read : Readable (h .card)
+
+-- a call leaves what the host holds, or is accepted on the whole of it and leaves the bytes of the next card
+data Stepped (h : Held) (x : Lent Call) : Type 0 where
+  stays : (made h (running x) .refusal ≡ 0 → ⊥) → left h (running x) (made h (running x)) ≡ h → Stepped h x
+  goes : made h (running x) .refusal ≡ 0 → isAccepted (step (worldIn h) (x .calls) .answer) ≡ true
+      → left h (running x) (made h (running x)) ≡ bytesOf (step (worldIn h) (x .calls) .world) → Stepped h x
+
+-- every byte that was lent came back
+lent-back : (h : Held) (x : Lent Call) (n : ℕ) (out : List ℕ)
+    → made h (running x) ≡ handed n (take (x .card) (h .card)) (take (x .table) (h .table)) (take (x .pending) (h .pending)) out 0 0 0
+    → left h (running x) (made h (running x)) ≡ h
+lent-back h x n out e =
+    ap (left h (running x)) e
+    ∙ (λ i. heldOf (take-append-drop (x .card) (h .card) i) (take-append-drop (x .table) (h .table) i) (take-append-drop (x .pending) (h .pending) i))
+
+module _ (h : Held) (b : IsCard h) (s : sound (worldIn h) ≡ true) (x : Lent Call) (e : made h (running x) .refusal ≡ 0) where
+  abbrev card : List ℕ
+  card = take (x .card) (h .card)
+
+  abbrev t : List ℕ
+  t = take (x .table) (h .table)
+
+  abbrev p : List ℕ
+  p = take (x .pending) (h .pending)
+
+  abbrev c : Call
+  c = x .calls
+
+  crosses : made h (running x) ≡ back card (call c) (step (worldOf (cardIn card) t p) c)
+  crosses = read-through card t p (call c) (zero-read card t p (call c) e)
+
+  yes : isAccepted (step (worldOf (cardIn card) t p) c .answer) ≡ true
+  yes = zero-accepted (worldOf (cardIn card) t p) c (sym (ap (λ (r : Crossed). r .refusal) crosses) ∙ e)
+
+  -- the whole of each buffer was lent
+  whole-card : (card ≡ h .card) × (drop (x .card) (h .card) ≡ [])
+  whole-card = lent-whole (x .card) (h .card) (read-call card c (zero-read card t p (call c) e) .size ∙ sym (b .read .size))
+
+  room : (length t ≡ length (h .table)) × (length p ≡ length (h .pending))
+  room =
+      let same = ap (λ (l : List ℕ). cardIn l .function .config) (whole-card .0) in
+      let r = room-sound (worldOf (cardIn card) t p) (worldIn h) (accepted-sound (worldOf (cardIn card) t p) c yes) s same in
+      (r .table, r .pending)
+
+  whole-table : (t ≡ h .table) × (drop (x .table) (h .table) ≡ [])
+  whole-table = lent-whole (x .table) (h .table) (room .0)
+
+  whole-pending : (p ≡ h .pending) × (drop (x .pending) (h .pending) ≡ [])
+  whole-pending = lent-whole (x .pending) (h .pending) (room .1)
+
+  same-world : worldOf (cardIn card) t p ≡ worldIn h
+  same-world = λ i. worldOf (cardIn (whole-card .0 i)) (whole-table .0 i) (whole-pending .0 i)
+
+  now-accepted : isAccepted (step (worldIn h) c .answer) ≡ true
+  now-accepted = ap (λ (w : World). isAccepted (step w c .answer)) (sym same-world) ∙ yes
+
+  leaves : left h (running x) (made h (running x)) ≡ bytesOf (step (worldIn h) c .world)
+  unfolding cardAfter
+  leaves =
+      (λ i. heldOf (made h (running x) .card ++ whole-card .1 i) (made h (running x) .table ++ whole-table .1 i) (made h (running x) .pending ++ whole-pending .1 i))
+      ∙ (λ i. heldOf (append-nil (made h (running x) .card) i) (append-nil (made h (running x) .table) i) (append-nil (made h (running x) .pending) i))
+      ∙ ap leftBy crosses
+      ∙ rw (sym (ap (λ (r : Crossed). r .refusal) crosses) ∙ e) (ap (λ (w : World). bytesOf (step w c .world)) same-world)
+
+stepped : (h : Held) → IsCard h → sound (worldIn h) ≡ true → (x : Lent Call) → Stepped h x
+stepped h b s x =
+    by-test (eqb (made h (running x) .refusal) 0)
+    (λ z. let e = eqb-true (made h (running x) .refusal) 0 z in goes e (now-accepted h b s x e) (leaves h b s x e))
+    (λ z.
+    let e = eqb-false (made h (running x) .refusal) 0 z in
+    stays e (lent-back h x _ _ (refused-call (take (x .card) (h .card)) (take (x .table) (h .table)) (take (x .pending) (h .pending)) (x .calls) e)))
+
+-- ---- lists of calls
+
+-- a typed world's bytes are a card's, and hold that world
+card-of : (w : World) → Typed w → IsCard (bytesOf w)
+card-of w t = record { bytes = card-bytes w t; read = record { size = card-length w t; flags = card-flags w t } }
+
+back-of : (w : World) → Typed w → worldIn (bytesOf w) ≡ w
+back-of w t = ap (λ (c : Card). worldOf c (w .endpoint .table) (w .endpoint .pending)) (card-reads w t)
+
+-- a host's run, as a run of the card in its bytes
+abbrev runOf : HostRun → Run
+runOf h = record { world = worldIn (h .held); past = h .past }
+
+-- what every call keeps
+record Fine (g : Given) (h : HostRun) : Type 0 where
+  card : IsCard (h .held)
+  good : Good g (runOf h)
+
+module _ (g : Given) (ok : startRefusal g ≡ 0) (m : Mode) (v : ℕ) (h : HostRun) (i : Fine g h) (x : Lent Call) where
+  abbrev r : Crossed
+  r = made (h .held) (running x)
+
+  abbrev bytes : List ℕ
+  bytes = take (r .count) (r .output)
+
+  -- the law of the call, where it leaves k
+  abbrev LawAt : Held → Type 0
+  LawAt k =
+      Law hostCalled (λ (h : HostRun). h .past) (λ (h : HostRun). waits m (worldIn (h .held) .endpoint) v) (Fine g) (heldBy g m v) (clearedBy g m v) h
+      (record { held = k; past = entryOf (x .calls) (answerOf r) bytes ∷ h .past })
+
+  refused-law : (r .refusal ≡ 0 → ⊥) → LawAt (h .held)
+  refused-law e =
+      let no : isAccepted (answerOf r) ≡ false = rw (ne-eqb (r .refusal) 0 e) (refused-not (r .refusal)) in
+      let l = refuses g ok m v (runOf h) (i .good) bytes (x .calls) (answerOf r) no in
+      record { entry = l .entry; longer = l .longer; good = record { card = i .card; good = l .good }; wait = l .wait }
+
+  accepted-law : r .refusal ≡ 0 → isAccepted (step (worldIn (h .held)) (x .calls) .answer) ≡ true → LawAt (bytesOf (step (worldIn (h .held)) (x .calls) .world))
+  accepted-law e a =
+      let w : World = step (worldIn (h .held)) (x .calls) .world in
+      let t : Typed w = typed-step (worldIn (h .held)) (card-typed (h .held .card) (i .card .bytes) (i .card .read .size) (h .held .table) (h .held .pending)) (x .calls) in
+      let yes : isAccepted (answerOf r) ≡ true = rw (eq-eqb (r .refusal) 0 e) done-accepted in
+      let l = entry-law g ok m v (runOf h) (i .good) bytes (x .calls) (answerOf r) (yes ∙ sym a) in
+      record {
+        entry = l .entry;
+        longer = l .longer;
+        good = record { card = card-of w t; good = subst (λ (u : World). Good g (entered (runOf h) (entryOf (x .calls) (answerOf r) bytes) u)) (sym (back-of w t)) (l .good) };
+        wait = ap (λ (u : World). waits m (u .endpoint) v) (back-of w t) ∙ l .wait;
+      }
+
+  call-law : LawAt (left (h .held) (running x) r)
+  call-law = by-step (stepped (h .held) (i .card) (i .good .isSound) x)
+    where
+      by-step : Stepped (h .held) x → LawAt (left (h .held) (running x) r)
+      by-step (stays e q) = subst LawAt (sym q) (refused-law e)
+      by-step (goes e a q) = subst LawAt (sym q) (accepted-law e a)
+
+-- ---- what the bytes say
+
+bit-in : (m : Mode) (h : Held) (v : ℕ) → waitingBit m h v ≡ waits m (worldIn h .endpoint) v
+unfolding waitingBit
+bit-in Pin h v = sym (waits-pin (worldIn h .endpoint) v)
+bit-in Msi h v = ap (λ (n : ℕ). bit n v) (sym (waiting-in (h .card))) ∙ sym (waits-msi (worldIn h .endpoint) v)
+bit-in Msix h v = sym (waits-msix (worldIn h .endpoint) v)
+
+registers-in : (h : Held) → registersIn h ≡ registers (worldIn h .endpoint)
+unfolding registersIn
+registers-in h = λ i. record { config = sym (config-in (h .card)) i; table = h .table }
+
+-- ---- the theorem
+
+module _ (g : Given) (ok : startRefusal g ≡ 0) (t : Typed (startedWorld g)) where
+  -- as a start leaves them
+  abbrev first : HostRun
+  first = record { held = bytesOf (startedWorld g); past = [] }
+
+  fine : Fine g first
+  fine = record {
+    card = card-of (startedWorld g) t;
+    good = subst (λ (w : World). Good g (record { world = w; past = [] })) (sym (back-of (startedWorld g) t)) (started-good g ok);
+  }
+
+  law : (m : Mode) (v : ℕ) (h : HostRun) (x : Lent Call) → Fine g h
+      → Law hostCalled (λ (h : HostRun). h .past) (λ (h : HostRun). waits m (worldIn (h .held) .endpoint) v) (Fine g) (heldBy g m v) (clearedBy g m v) h (hostCalled h x)
+  unfolding hostCalled
+  law m v h x i = call-law g ok m v h i x
+
+  registers-kept : (calls : List (Lent Call)) → registersIn (hostRun (bytesOf (startedWorld g)) calls .held) ≡ registersBy g (hostRun (bytesOf (startedWorld g)) calls .past)
+  unfolding hostRun
+  registers-kept calls =
+      let all : Fine g (foldl hostCalled first calls) = list-keeps hostCalled (Fine g) (λ h x i. law Msi 0 h x i .good) first calls fine in
+      registers-in (foldl hostCalled first calls .held) ∙ all .good .same
+
+  bits-kept : (calls : List (Lent Call)) (m : Mode) (v : ℕ)
+      → (waitingBit m (hostRun (bytesOf (startedWorld g)) calls .held) v ≡ true) ↔ WaitsBy g m v (hostRun (bytesOf (startedWorld g)) calls .past)
+  unfolding hostRun
+  bits-kept calls m v =
+      rw (bit-in m (foldl hostCalled first calls .held) v)
+      (bit-iff hostCalled (λ (h : HostRun). h .past) (λ (h : HostRun). waits m (worldIn (h .held) .endpoint) v) (Fine g) (heldBy g m v) (clearedBy g m v)
+      (λ x before. (resets x ≡ false) × (openBy g (x ∷ before) m v ≡ false)) (λ x before. cleared-not g m v x before) (λ h x i. law m v h x i) first fine refl
+      (ap (λ (w : World). waits m (w .endpoint) v) (back-of (startedWorld g) t) ∙ started-waits g ok m v) calls)
+
+-- a start that returns 0
+module _ (card t p config sizes : List ℕ) (events requester : ℕ) (e : crossed card t p (start config sizes events requester) .refusal ≡ 0) where
+  abbrev o : Operation
+  o = start config sizes events requester
+
+  abbrev u : Endpoint
+  u = worldOf (cardIn card) t p .endpoint
+
+  abbrev input : Given
+  input = given config sizes events requester (length t) (length p)
+
+  crossing : crossed card t p o ≡ back card o (startOf u input)
+  crossing = read-through card t p o (zero-read card t p o e)
+
+  start-passed : startRefusal input ≡ 0
+  start-passed = sym (start-number u input) ∙ sym (ap (λ (r : Crossed). r .refusal) crossing) ∙ e
+
+  start-typed : Bytes config → Below (256 ^ 4) sizes → Typed (startedWorld input)
+  start-typed b z =
+      let n = read-lengths card o (zero-read card t p o e) in
+      started-typed input start-passed (record { config = n .1; bytes = b; sizes = n .2; small = z })
+
+  start-leaves : leftBy (crossed card t p o) ≡ bytesOf (startedWorld input)
+  unfolding cardAfter
+  start-leaves = ap leftBy crossing ∙ ap (λ (r : Outcome). leftBy (back card o r)) (start-accepted u input start-passed)
+
+-- of all that a host can hand to a start
+pub host-history : (card t p config sizes : List ℕ) (events requester : ℕ) → Bytes config → Below (256 ^ 4) sizes
+    → Remembers card t p config sizes events requester
+host-history card t p config sizes events requester b z e calls =
+    let g : Given = given config sizes events requester (length t) (length p) in
+    let ok = start-passed card t p config sizes events requester e in
+    let typed = start-typed card t p config sizes events requester e b z in
+    rw (start-leaves card t p config sizes events requester e) (registers-kept g ok typed calls, bits-kept g ok typed calls)
