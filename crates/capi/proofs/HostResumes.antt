@@ -66,7 +66,6 @@ module _ (card t p : List ℕ) (b : Bytes card) (out : List ℕ) (e : crossed ca
 
   -- the save wrote the image of the card, and left every byte
   wrote : take (saved .count) (saved .output) ≡ imageOf w
-  unfolding wroteBytes
   wrote = ap (λ (x : Crossed). take (x .count) (x .output)) crosses ∙ did .image
 
   same : cardBytes w ≡ card

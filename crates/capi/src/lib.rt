@@ -2,6 +2,7 @@
 mod bytes;
 pub mod events;
 mod given;
+pub mod hosts;
 pub mod images;
 mod narrow;
 pub mod reads;

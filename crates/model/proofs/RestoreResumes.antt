@@ -110,7 +110,7 @@ pub record Saved (w : World) (r : Outcome) : Type 0 where
   pub image : wroteBytes r ≡ imageOf w
 
 pub save-saved : (w : World) (out : List ℕ) → isAccepted (step w (save out) .answer) ≡ true → Saved w (step w (save out))
-unfolding next sends wroteBytes isAccepted
+unfolding next sends isAccepted
 save-saved w out =
     step-elim w (save out) (λ (r : Outcome). isAccepted (r .answer) ≡ true → Saved w r)
     (λ p _. record { isSound = p .isSound; kept = refl; image = take-append-seam (imageOf w) _ })

@@ -16,5 +16,5 @@ outcomes w [] = []
 outcomes w (o ∷ os) = operate w o ∷ outcomes (operate w o .world) os
 
 -- the bytes that a call wrote: of a save, its image
-unfoldable pub wroteBytes : Outcome → List ℕ
+abbrev pub wroteBytes : Outcome → List ℕ
 wroteBytes r = take (r .count) (r .output)

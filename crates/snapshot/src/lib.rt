@@ -2,3 +2,4 @@
 pub mod held;
 pub mod restore;
 pub mod save;
+pub mod typed;

@@ -7,7 +7,7 @@ use lib.Bits.{bitAnd, and-le-r, or-lt}
 use lib.ListN.{take, replicate}
 use Rattle.words.specs.Lists.{join, eachAt}
 use Rattle.words.specs.Bits.{merge, clear}
-use Rattle.words.specs.Bytes.{part, Below, empty, more, Bytes}
+use Rattle.words.specs.Bytes.{byte, part, Below, empty, more, Bytes}
 use Rattle.words.proofs.BitLaws.{clear-le}
 use Rattle.words.proofs.ByteLaws.{drop-bytes}
 
@@ -49,6 +49,19 @@ pub bytes-each : (f : ℕ → ℕ → ℕ) → ((i b : ℕ) → b < 256 → f i 
 unfolding eachAt
 bytes-each f h i [] b = bytes-none
 bytes-each f h i (x ∷ l) b = bytes-more (f i x) (eachAt f (suc i) l) (h i x (b 0)) (bytes-each f h (suc i) l (λ k. b (suc k)))
+
+-- ---- numbers below a bound
+
+pub byte-below : {k : ℕ} {l : List ℕ} → 0 < k → Below k l → (i : ℕ) → byte l i < k
+byte-below p empty i = p
+byte-below p (more h b) zero = h
+byte-below p (more h b) (suc i) = byte-below p b i
+
+pub below-bytes : {k : ℕ} (l : List ℕ) → ((i : ℕ) → byte l i < k) → Below k l
+below-bytes [] h = empty
+below-bytes (x ∷ l) h = more (h 0) (below-bytes l (λ i. h (suc i)))
+
+-- ---- one byte
 
 -- the bits of one byte in another
 pub merge-byte : (mask old new : ℕ) → old < 256 → new < 256 → merge mask old new < 256

@@ -3,13 +3,14 @@
 use mathlib.Core.Path.{_≡_, refl, sym, ap, ap₂, _∙_}
 use mathlib.Core.Bool.{Bool, true, false, not, _&&_, _||_, or-false, false≢true}
 use mathlib.Core.List.{List, [], _∷_}
-use Prim.Native.Nat.{ℕ, zero, suc, _+_, _%_, _^_, _≤_, _<_, min}
+use Prim.Native.Nat.{ℕ, _+_, _%_, _^_, _≤_, _<_, min}
 use native.Mathlib.Nat.{min-eq-left, min-comm, le-of-lt}
 use native.Mathlib.Omega.{arith}
 use lib.Dec.{ltb, leb, eqb}
 use borrow.Author.Tests.{eqb-true, leb-true, leb-false, ltb-false, ltb-true, not-false}
 use Rattle.words.specs.Lists.{firstOf, within}
-use Rattle.words.specs.Bytes.{byte, Below, empty, more}
+use Rattle.words.specs.Bytes.{byte, Below}
+use Rattle.words.proofs.BytesLaws.{byte-below}
 use Rattle.words.proofs.BoolLaws.{both, neither, second-false, by-test, passed}
 use Rattle.model.specs.declared.Region.{Region}
 use Rattle.model.specs.declared.Shape.{Shape}
@@ -103,11 +104,6 @@ module _ (w : World) (o n : ℕ) where
         alike w (configWrite o′ n′ x out) (configWrite o n x out) refl (λ _. same-rows) (λ _ z. λ i. configWrite (kept z .0 i) (kept z .1 i) x out)
 
 -- 4: table and pending array lie in BARs of less than 2^32 bytes
-byte-below : {k : ℕ} {l : List ℕ} → 0 < k → Below k l → (i : ℕ) → byte l i < k
-byte-below p empty i = p
-byte-below p (more h b) zero = h
-byte-below p (more h b) (suc i) = byte-below p b i
-
 region-fits : (sizes : List ℕ) → Below (256 ^ 4) sizes → (r : Region) (n b o : ℕ) → outside sizes r n ≡ false → inRegion r n b o ≡ true → o < 4294967295
 unfolding outside inRegion within
 region-fits sizes small r n b o u e =
