@@ -1,5 +1,5 @@
 -- Buffers that are lent in part: what was not lent stays, and every function keeps the length of what it was lent. Assumes nothing.
-use mathlib.Core.Path.{_≡_, refl, sym, ap, ap₂, _∙_}
+use mathlib.Core.Path.{_≡_, refl, sym, ap, _∙_}
 use mathlib.Core.List.{List, [], _∷_, _++_}
 use Prim.Native.Nat.{ℕ, _+_, _≤_}
 use native.Mathlib.Nat.{min-le-left}
@@ -11,13 +11,13 @@ use borrow.Author.Tests.{eqb-true, eqb-false}
 use Rattle.words.proofs.BoolLaws.{by-test, cond-elim}
 use Rattle.model.specs.Answers.{refusalOf}
 use Rattle.model.specs.World.{World, worldOf}
-use Rattle.model.specs.Image.{cardBytes, cardIn, restoreRefusal}
-use Rattle.model.specs.Calls.{Outcome, Operation, call, start, restore, startGiven, startOf, restoreOf, operate, lentOutput}
+use Rattle.model.specs.Image.{cardIn}
+use Rattle.model.specs.Calls.{Operation, call, start, restore, restoreOf, operate}
 use Rattle.model.proofs.CardExact.{card-sized, sized-length}
 use Rattle.model.proofs.ImageExact.{restored-sized}
 use Rattle.model.proofs.RestoreResumes.{room-operate}
 use Rattle.model.proofs.Calls.SizeLaws.{sized-step, sized-start}
-use Rattle.capi.specs.Crossing.{Crossed, handed, unread, cardAfter, crossed}
+use Rattle.capi.specs.Crossing.{Crossed, unread, cardAfter, crossed}
 use Rattle.capi.specs.Hosts.{Held, Lent, made, left, heldAfter, RightLengths}
 use Rattle.capi.proofs.CardFor.{read-lengths}
 use Rattle.capi.proofs.CrossingFor.{stopped}

@@ -13,8 +13,7 @@ use Rattle.model.specs.Answers.{refusalOf, isAccepted}
 use Rattle.model.specs.World.{World, worldOf}
 use Rattle.model.specs.Image.{cardBytes, cardIn, imageOf}
 use Rattle.model.specs.Claims.{SameRoom}
-use Rattle.model.specs.Trials.{wroteBytes}
-use Rattle.model.specs.Calls.{Outcome, Operation, call, save, restore, accepted, step, restoreOf}
+use Rattle.model.specs.Calls.{Operation, call, save, restore, accepted, step, restoreOf}
 use Rattle.model.proofs.CardExact.{card-typed, card-kept}
 use Rattle.model.proofs.ImageExact.{restored}
 use Rattle.model.proofs.RestoreResumes.{Saved, save-saved}

@@ -3,6 +3,7 @@ pub mod CrossingFor
 pub mod ReadFor
 pub mod StartFor
 pub mod Refused
+pub mod Interface
 pub mod HostFor
 pub mod HostResumes
 pub mod HostHistory

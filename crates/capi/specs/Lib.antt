@@ -1,4 +1,5 @@
 pub mod Crossing
 pub mod Hosts
+pub mod Interface
 pub mod HostClaims
 pub mod Numbers

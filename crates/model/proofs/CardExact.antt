@@ -1,14 +1,13 @@
 -- A card and its 289 bytes determine each other: a card that the declared types can hold is read back from the bytes that are written of it, and bytes
 -- with no other flags than line and wire are those written of the card that they hold. Assumes nothing.
 use mathlib.Core.Path.{_≡_, refl, sym, ap, _∙_}
-use mathlib.Core.List.{List, [], _∷_, _++_}
+use mathlib.Core.List.{List, _∷_, _++_}
 use Prim.Native.Nat.{ℕ, _+_, _*_, _<_}
 use native.Mathlib.Omega.{arith}
 use lib.ListN.{length, take, drop, length-append}
 use lib.Seq.{drop-at, take-all}
 use borrow.Author.Tests.{lt-ltb}
 use Rattle.words.specs.Lists.{join}
-use Rattle.words.specs.Bits.{ofBool}
 use Rattle.words.specs.Bytes.{byte, number, part, word16, word32, words32, bytesOf, Bytes}
 use Rattle.words.proofs.BitLaws.{ofBool-small}
 use Rattle.words.proofs.ListLaws.{same-true}

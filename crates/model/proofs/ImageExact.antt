@@ -3,14 +3,13 @@
 use mathlib.Core.Path.{_≡_, refl, sym, ap, _∙_}
 use mathlib.Core.Bool.{true, not, false≢true}
 use mathlib.Core.List.{List, []}
-use mathlib.Core.Logic.{_↔_}
 use Prim.Native.Nat.{ℕ, zero, suc, _^_, _≤_}
 use native.Mathlib.Omega.{arith}
 use lib.Dec.{ltb, eqb}
 use lib.ListN.{length, take, drop}
 use borrow.Author.Tests.{eq-eqb, le-ltb, ltb-false, not-false}
 use Rattle.words.specs.Lists.{same, firstOf}
-use Rattle.words.specs.Bytes.{byte, number, word16, word32, words32, part, bytesOf, Below, empty, more, Bytes}
+use Rattle.words.specs.Bytes.{byte, number, word16, word32, words32, bytesOf, Below, empty, more, Bytes}
 use Rattle.words.proofs.BoolLaws.{both, neither, passed}
 use Rattle.words.proofs.ListLaws.{same-true, same-refl}
 use Rattle.words.proofs.ByteLaws.{number-lt, drop-bytes, length-part}

@@ -1,24 +1,21 @@
 -- The declared types are kept: whatever is called, the card stays one that its types can hold. Assumes nothing.
 use mathlib.Core.Path.{_≡_, refl, sym, ap, _∙_, subst}
-use mathlib.Core.Bool.{Bool, true}
-use mathlib.Core.List.{List, []}
-use Prim.Native.Nat.{ℕ, _^_, _≤_, _<_}
-use native.Mathlib.Nat.{lt-of-le-of-lt}
+use mathlib.Core.Bool.{true}
+use mathlib.Core.List.{List}
+use Prim.Native.Nat.{ℕ, _^_, _≤_}
 use native.Mathlib.Omega.{arith}
 use lib.ListN.{length}
 use lib.Pow.{pow-mono}
-use Rattle.words.specs.Bytes.{Below, Bytes}
+use Rattle.words.specs.Bytes.{Below}
 use Rattle.words.proofs.BytesLaws.{bytes-replicate, below-replicate}
 use Rattle.model.specs.declared.Shape.{Shape}
 use Rattle.model.specs.Shape.{shapeOf, msiVectors}
 use Rattle.model.specs.Registers.{startedConfig}
 use Rattle.model.specs.World.{World, Endpoint}
-use Rattle.model.specs.Release.{settled}
 use Rattle.model.specs.Start.{Given, startRefusal}
 use Rattle.model.specs.Sound.{sound, shape, givenOf}
-use Rattle.model.specs.Image.{worldIn}
 use Rattle.model.specs.Claims.{Arrays, Typed, TypedArguments, ofCall, ofStart, ofRestore}
-use Rattle.model.specs.Calls.{Call, Outcome, Operation, call, start, restore, startGiven, startedWorld, zeroWorld, next, step, startOf, restoreOf, operate}
+use Rattle.model.specs.Calls.{Call, Outcome, Operation, start, startGiven, startedWorld, zeroWorld, next, step, startOf, restoreOf, operate}
 use Rattle.model.proofs.Registers.FixedLaws.{length-started}
 use Rattle.model.proofs.Sound.SoundLaws.{Accepts, accepts, SoundEndpoint, is-sound, events-fit, requester-fits}
 use Rattle.model.proofs.Sound.StartLaws.{few-msi, started-sound}

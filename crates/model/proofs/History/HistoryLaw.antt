@@ -13,7 +13,6 @@ use Rattle.model.specs.declared.Mode.{Mode}
 use Rattle.model.specs.declared.Mode.the-variants.{Pin, Msi, Msix}
 use Rattle.model.specs.declared.Shape.{Shape}
 use Rattle.model.specs.declared.Answer.{Answer}
-use Rattle.model.specs.declared.Answer.the-variants.{Refused}
 use Rattle.model.specs.Answers.{isAccepted}
 use Rattle.model.specs.Shape.{shapeOf}
 use Rattle.model.specs.Registers.{configWritten, barWritten}
@@ -22,7 +21,7 @@ use Rattle.model.specs.Vectors.{inForce, isOpen, waits, means, pendingBi
 use Rattle.model.specs.Release.{raisedBy, settled}
 use Rattle.model.specs.Start.{Given, startRefusal}
 use Rattle.model.specs.Sound.{sound, shape}
-use Rattle.model.specs.Calls.{Call, configRead, configWrite, barRead, barWrite, event, line, reset, save, Outcome, changed, next, answerOf, step}
+use Rattle.model.specs.Calls.{Call, configRead, configWrite, barRead, barWrite, event, line, reset, save, Outcome, changed, next, step}
 use Rattle.model.specs.Trials.{wroteBytes}
 use Rattle.model.specs.History.{Entry, entryOf, Location, Run, called, isReset, resets, puts, registersBy, openBy, meansBy, isEventFor, heldBy}
 use Rattle.model.proofs.Vectors.WaitingLaws.{OnlyWaiting, only-registers}

@@ -230,7 +230,9 @@ counts =
     ∷ (16, numbers 1 0x102 0 0)
     ∷ (16, numbers 1 0x104 0 0)
     ∷ (0, numbers 1 0x108 0 0)
+    -- a requester ID has 16 bits
     ∷ (0, numbers 1 0xfff8 0 0)
+    ∷ (16, numbers 1 0x10000 0 0)
     ∷ (0, numbers 1 0 0 0)
     ∷ (16, numbers 1 0x101 1 0)
     -- buffers one byte off, and those of a vector more and less
