@@ -6,4 +6,5 @@ pub mod Refused
 pub mod Interface
 pub mod HostFor
 pub mod HostResumes
+pub mod HostStep
 pub mod HostHistory

@@ -20,7 +20,7 @@ returns : tie.Need-returns
 returns c = stopped _ _ _ (call (called (c .before))) _ (c .before .unread .ensures _) (c .if1 .taken)
 
 -- the bytes of the card that is read
-read : (c : tie.Else1) → Readable (now (c .before .before .before .before .before .before .before .args .card))
+read : (c : tie.Else1) → let start = c .before .before .before .before .before .before .before in Readable (now (start .args .card))
 read c = readable _ _ (c .before .unread .ensures) (c .if1 .left)
 
 card-of-requires : tie.Need-card-of-requires
@@ -39,9 +39,10 @@ returns-2 c =
     let at-card-of = at-narrow16 .before .before in
     let at-if1 = at-card-of .before .before in
     let at-unread = at-if1 .before in
+    let outcome = at-event .event .ensures ∙ wide-event _ _ _ _ (at-narrow16 .narrow16 .ensures) in
     let accepted = sym (at-unread .unread .ensures _) ∙ at-if1 .if1 .left in
     answers-back _ _ _ (called at-unread) accepted _ (at-card-of .card-of .ensures) _ _ _ _
-    (at-event .event .ensures ∙ wide-event _ _ _ _ (at-narrow16 .narrow16 .ensures)) _ (at-hand-back .hand-back .ensures .0) _ (at-hand-back .hand-back .ensures .1)
+    outcome _ (at-hand-back .hand-back .ensures .0) _ (at-hand-back .hand-back .ensures .1)
     (no-value _ _ refl)
 
 pub musgarento-event-spec : {M : Type 1} → statement M

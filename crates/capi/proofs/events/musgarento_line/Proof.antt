@@ -21,7 +21,7 @@ returns : tie.Need-returns
 returns c = stopped _ _ _ (call (called (c .before))) _ (c .before .unread .ensures _) (c .if1 .taken)
 
 -- the bytes of the card that is read
-read : (c : tie.Else1) → Readable (now (c .before .before .before .before .before .before .before .args .card))
+read : (c : tie.Else1) → let start = c .before .before .before .before .before .before .before in Readable (now (start .args .card))
 read c = readable _ _ (c .before .unread .ensures) (c .if1 .left)
 
 card-of-requires : tie.Need-card-of-requires

@@ -20,14 +20,14 @@ returns : tie.Need-returns
 returns c = stopped _ _ _ (call (called (c .before))) _ (c .before .unread .ensures _) (c .if1 .taken)
 
 -- the bytes of the card that is read
-read : (c : tie.Else1) → Readable (now (c .before .before .before .before .before .before .args .card))
+read : (c : tie.Else1) → let start = c .before .before .before .before .before .before in Readable (now (start .args .card))
 read c = readable _ _ (c .before .unread .ensures) (c .if1 .left)
 
 card-of-requires : tie.Need-card-of-requires
 card-of-requires c κs = card-room (read c)
 
 -- the lent bytes are bytes
-bytes : (c : tie.After-unread) → Bytes (now (c .before .before .before .before .before .args .card))
+bytes : (c : tie.After-unread) → let start = c .before .before .before .before .before in Bytes (now (start .args .card))
 bytes c i =
     let at-known = c .before .before .before .before in
     at-known .shared-slice-known .given i .fits

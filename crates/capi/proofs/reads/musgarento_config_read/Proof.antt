@@ -25,14 +25,14 @@ returns : tie.Need-returns
 returns c = stopped _ _ _ (call (called (c .before))) _ (c .before .unread .ensures _) (c .if1 .taken)
 
 -- the bytes of the card that is read
-read : (c : tie.Else1) → Readable (now (c .before .before .before .before .before .args .card))
+read : (c : tie.Else1) → let start = c .before .before .before .before .before in Readable (now (start .args .card))
 read c = readable _ _ (c .before .unread .ensures) (c .if1 .left)
 
 card-of-requires : tie.Need-card-of-requires
 card-of-requires c κs = card-room (read c)
 
 -- the lent bytes are bytes
-bytes : (c : tie.After-unread) → Bytes (now (c .before .before .before .before .args .card))
+bytes : (c : tie.After-unread) → let start = c .before .before .before .before in Bytes (now (start .args .card))
 bytes c i =
     let at-known = c .before .before .before in
     at-known .shared-slice-known .given i .fits
@@ -63,9 +63,10 @@ returns-2 c =
     let at-card-of = at-narrow16 .before in
     let at-if1 = at-card-of .before in
     let at-unread = at-if1 .before in
+    let outcome = at-config-read .config-read .ensures ∙ wide-config-read _ _ _ _ _ (at-narrow16 .narrow16 .ensures) (at-narrow8 .narrow8 .ensures) in
     let accepted = sym (at-unread .unread .ensures _) ∙ at-if1 .if1 .left in
     reads-back _ _ _ (called at-unread) accepted _ (at-card-of .card-of .ensures) _ _ _ _
-    (at-config-read .config-read .ensures ∙ wide-config-read _ _ _ _ _ (at-narrow16 .narrow16 .ensures) (at-narrow8 .narrow8 .ensures)) _ (at-numbers-of .numbers-of .ensures) (bytes at-unread) (read at-if1)
+    outcome _ (at-numbers-of .numbers-of .ensures) (bytes at-unread) (read at-if1)
     (reads-config _ _ _)
 
 pub musgarento-config-read-spec : {M : Type 1} → statement M

@@ -21,7 +21,7 @@ returns : tie.Need-returns
 returns c = stopped _ _ _ (call (called (c .before))) _ (c .before .unread .ensures _) (c .if1 .taken)
 
 -- the bytes of the card that is read
-read : (c : tie.Else1) → Readable (now (c .before .before .before .before .before .before .before .args .card))
+read : (c : tie.Else1) → let start = c .before .before .before .before .before .before .before in Readable (now (start .args .card))
 read c = readable _ _ (c .before .unread .ensures) (c .if1 .left)
 
 card-of-requires : tie.Need-card-of-requires
@@ -33,7 +33,7 @@ hand-back-requires c κs =
     read at-if1 .size
 
 -- the lent bytes are bytes
-bytes : (c : tie.After-unread) → Bytes (now (c .before .before .before .before .before .before .args .card))
+bytes : (c : tie.After-unread) → let start = c .before .before .before .before .before .before in Bytes (now (start .args .card))
 bytes c i =
     let at-known = c .before .before .before .before .before in
     at-known .slice-known .given i .fits
@@ -49,9 +49,10 @@ returns-2 c =
     let at-if1 = at-card-of .before .before in
     let at-unread = at-if1 .before in
     let small = sizes-small _ (bytes at-unread) (read at-if1 .size) _ (at-card-of .card-of .ensures) in
+    let outcome = at-bar-write .bar-write .ensures ∙ wide-bar-write _ small _ _ _ _ _ _ (at-narrow8 .narrow8 .ensures) (at-narrow32 .narrow32 .ensures) (at-narrow82 .narrow82 .ensures) _ _ in
     let accepted = sym (at-unread .unread .ensures _) ∙ at-if1 .if1 .left in
     sends-back _ _ _ (called at-unread) accepted _ (at-card-of .card-of .ensures) _ _ _ _
-    (at-bar-write .bar-write .ensures ∙ wide-bar-write _ small _ _ _ _ _ _ (at-narrow8 .narrow8 .ensures) (at-narrow32 .narrow32 .ensures) (at-narrow82 .narrow82 .ensures) _ _) _ (at-hand-back .hand-back .ensures .0) _ (at-hand-back .hand-back .ensures .1)
+    outcome _ (at-hand-back .hand-back .ensures .0) _ (at-hand-back .hand-back .ensures .1)
     (plain-call _ _ refl refl)
 
 pub musgarento-bar-write-spec : {M : Type 1} → statement M
