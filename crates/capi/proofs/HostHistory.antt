@@ -36,13 +36,13 @@ use Rattle.capi.specs.HostClaims.{leftBy, Remembers}
 use Rattle.capi.proofs.CardFor.{read-lengths}
 use Rattle.capi.proofs.HostResumes.{zero-read}
 use Rattle.capi.proofs.Refused.{read-through}
-use Rattle.capi.proofs.HostStep.{worldIn, bytesOf, IsCard, Stepped, stays, goes, stepped, card-of, back-of}
+use Rattle.capi.proofs.HostStep.{hostWorld, hostBytes, IsCard, Stepped, stays, goes, stepped, card-of, back-of}
 
 -- ---- the law of one call
 
 -- a host's run, as a run of the card in its bytes
 abbrev runOf : HostRun → Run
-runOf h = record { world = worldIn (h .held); past = h .past }
+runOf h = record { world = hostWorld (h .held); past = h .past }
 
 -- what every call keeps
 record Fine (g : Given) (h : HostRun) : Type 0 where
@@ -59,7 +59,7 @@ module _ (g : Given) (ok : startRefusal g ≡ 0) (m : Mode) (v : ℕ) (h : HostR
   -- the law of the call, where it leaves k
   abbrev LawAt : Held → Type 0
   LawAt k =
-      Law hostCalled (λ (h : HostRun). h .past) (λ (h : HostRun). waits m (worldIn (h .held) .endpoint) v) (Fine g) (heldBy g m v) (clearedBy g m v) h
+      Law hostCalled (λ (h : HostRun). h .past) (λ (h : HostRun). waits m (hostWorld (h .held) .endpoint) v) (Fine g) (heldBy g m v) (clearedBy g m v) h
       (record { held = k; past = entryOf (x .calls) (answerOf r) bytes ∷ h .past })
 
   refused-law : (r .refusal ≡ 0 → ⊥) → LawAt (h .held)
@@ -68,10 +68,10 @@ module _ (g : Given) (ok : startRefusal g ≡ 0) (m : Mode) (v : ℕ) (h : HostR
       let l = refuses g ok m v (runOf h) (i .good) bytes (x .calls) (answerOf r) no in
       record { entry = l .entry; longer = l .longer; good = record { card = i .card; good = l .good }; wait = l .wait }
 
-  accepted-law : r .refusal ≡ 0 → isAccepted (step (worldIn (h .held)) (x .calls) .answer) ≡ true → LawAt (bytesOf (step (worldIn (h .held)) (x .calls) .world))
+  accepted-law : r .refusal ≡ 0 → isAccepted (step (hostWorld (h .held)) (x .calls) .answer) ≡ true → LawAt (hostBytes (step (hostWorld (h .held)) (x .calls) .world))
   accepted-law e a =
-      let w : World = step (worldIn (h .held)) (x .calls) .world in
-      let t : Typed w = typed-step (worldIn (h .held)) (card-typed (h .held .card) (i .card .bytes) (i .card .read .size) (h .held .table) (h .held .pending)) (x .calls) in
+      let w : World = step (hostWorld (h .held)) (x .calls) .world in
+      let t : Typed w = typed-step (hostWorld (h .held)) (card-typed (h .held .card) (i .card .bytes) (i .card .read .size) (h .held .table) (h .held .pending)) (x .calls) in
       let yes : isAccepted (answerOf r) ≡ true = rw (eq-eqb (r .refusal) 0 e) done-accepted in
       let l = entry-law g ok m v (runOf h) (i .good) bytes (x .calls) (answerOf r) (yes ∙ sym a) in
       record {
@@ -90,13 +90,13 @@ module _ (g : Given) (ok : startRefusal g ≡ 0) (m : Mode) (v : ℕ) (h : HostR
 
 -- ---- what the bytes say
 
-bit-in : (m : Mode) (h : Held) (v : ℕ) → waitingBit m h v ≡ waits m (worldIn h .endpoint) v
+bit-in : (m : Mode) (h : Held) (v : ℕ) → waitingBit m h v ≡ waits m (hostWorld h .endpoint) v
 unfolding waitingBit
-bit-in Pin h v = sym (waits-pin (worldIn h .endpoint) v)
-bit-in Msi h v = ap (λ (n : ℕ). bit n v) (sym (waiting-in (h .card))) ∙ sym (waits-msi (worldIn h .endpoint) v)
-bit-in Msix h v = sym (waits-msix (worldIn h .endpoint) v)
+bit-in Pin h v = sym (waits-pin (hostWorld h .endpoint) v)
+bit-in Msi h v = ap (λ (n : ℕ). bit n v) (sym (waiting-in (h .card))) ∙ sym (waits-msi (hostWorld h .endpoint) v)
+bit-in Msix h v = sym (waits-msix (hostWorld h .endpoint) v)
 
-registers-in : (h : Held) → registersIn h ≡ registers (worldIn h .endpoint)
+registers-in : (h : Held) → registersIn h ≡ registers (hostWorld h .endpoint)
 unfolding registersIn
 registers-in h = λ i. record { config = sym (config-in (h .card)) i; table = h .table }
 
@@ -105,7 +105,7 @@ registers-in h = λ i. record { config = sym (config-in (h .card)) i; table = h 
 module _ (g : Given) (ok : startRefusal g ≡ 0) (t : Typed (startedWorld g)) where
   -- as a start leaves them
   abbrev first : HostRun
-  first = record { held = bytesOf (startedWorld g); past = [] }
+  first = record { held = hostBytes (startedWorld g); past = [] }
 
   fine : Fine g first
   fine = record {
@@ -114,22 +114,22 @@ module _ (g : Given) (ok : startRefusal g ≡ 0) (t : Typed (startedWorld g)) wh
   }
 
   law : (m : Mode) (v : ℕ) (h : HostRun) (x : Lent Call) → Fine g h
-      → Law hostCalled (λ (h : HostRun). h .past) (λ (h : HostRun). waits m (worldIn (h .held) .endpoint) v) (Fine g) (heldBy g m v) (clearedBy g m v) h (hostCalled h x)
+      → Law hostCalled (λ (h : HostRun). h .past) (λ (h : HostRun). waits m (hostWorld (h .held) .endpoint) v) (Fine g) (heldBy g m v) (clearedBy g m v) h (hostCalled h x)
   unfolding hostCalled
   law m v h x i = call-law g ok m v h i x
 
-  registers-kept : (calls : List (Lent Call)) → registersIn (hostRun (bytesOf (startedWorld g)) calls .held) ≡ registersBy g (hostRun (bytesOf (startedWorld g)) calls .past)
+  registers-kept : (calls : List (Lent Call)) → registersIn (hostRun (hostBytes (startedWorld g)) calls .held) ≡ registersBy g (hostRun (hostBytes (startedWorld g)) calls .past)
   unfolding hostRun
   registers-kept calls =
       let all : Fine g (foldl hostCalled first calls) = list-keeps hostCalled (Fine g) (λ h x i. law Msi 0 h x i .good) first calls fine in
       registers-in (foldl hostCalled first calls .held) ∙ all .good .same
 
   bits-kept : (calls : List (Lent Call)) (m : Mode) (v : ℕ)
-      → (waitingBit m (hostRun (bytesOf (startedWorld g)) calls .held) v ≡ true) ↔ WaitsBy g m v (hostRun (bytesOf (startedWorld g)) calls .past)
+      → (waitingBit m (hostRun (hostBytes (startedWorld g)) calls .held) v ≡ true) ↔ WaitsBy g m v (hostRun (hostBytes (startedWorld g)) calls .past)
   unfolding hostRun
   bits-kept calls m v =
       rw (bit-in m (foldl hostCalled first calls .held) v)
-      (bit-iff hostCalled (λ (h : HostRun). h .past) (λ (h : HostRun). waits m (worldIn (h .held) .endpoint) v) (Fine g) (heldBy g m v) (clearedBy g m v)
+      (bit-iff hostCalled (λ (h : HostRun). h .past) (λ (h : HostRun). waits m (hostWorld (h .held) .endpoint) v) (Fine g) (heldBy g m v) (clearedBy g m v)
       (λ x before. (resets x ≡ false) × (openBy g (x ∷ before) m v ≡ false)) (λ x before. cleared-not g m v x before) (λ h x i. law m v h x i) first fine refl
       (ap (λ (w : World). waits m (w .endpoint) v) (back-of (startedWorld g) t) ∙ started-waits g ok m v) calls)
 
@@ -155,7 +155,7 @@ module _ (card t p config sizes : List ℕ) (events requester : ℕ) (e : crosse
       let n = read-lengths card o (zero-read card t p o e) in
       started-typed input start-passed (record { config = n .1; bytes = b; sizes = n .2; small = z })
 
-  start-leaves : leftBy (crossed card t p o) ≡ bytesOf (startedWorld input)
+  start-leaves : leftBy (crossed card t p o) ≡ hostBytes (startedWorld input)
   unfolding cardAfter
   start-leaves = ap leftBy crossing ∙ ap (λ (r : Outcome). leftBy (back card o r)) (start-accepted u input start-passed)
 

@@ -28,12 +28,12 @@ use Rattle.capi.proofs.HostResumes.{zero-read}
 use Rattle.capi.proofs.Refused.{read-through, refused-call}
 
 -- the card and the buffers in the bytes that a host holds
-abbrev pub worldIn : Held → World
-worldIn h = worldOf (cardIn (h .card)) (h .table) (h .pending)
+abbrev pub hostWorld : Held → World
+hostWorld h = worldOf (cardIn (h .card)) (h .table) (h .pending)
 
 -- what a host holds of a world
-abbrev pub bytesOf : World → Held
-bytesOf w = heldOf (cardBytes w) (w .endpoint .table) (w .endpoint .pending)
+abbrev pub hostBytes : World → Held
+hostBytes w = heldOf (cardBytes w) (w .endpoint .table) (w .endpoint .pending)
 
 -- bytes of a card
 pub record IsCard (h : Held) : Type 0 where
@@ -43,8 +43,8 @@ pub record IsCard (h : Held) : Type 0 where
 -- a call leaves what the host holds, or is accepted on the whole of it and leaves the bytes of the next card
 pub data Stepped (h : Held) (x : Lent Call) : Type 0 where
   stays : (made h (running x) .refusal ≡ 0 → ⊥) → left h (running x) (made h (running x)) ≡ h → Stepped h x
-  goes : made h (running x) .refusal ≡ 0 → isAccepted (step (worldIn h) (x .calls) .answer) ≡ true
-      → left h (running x) (made h (running x)) ≡ bytesOf (step (worldIn h) (x .calls) .world) → Stepped h x
+  goes : made h (running x) .refusal ≡ 0 → isAccepted (step (hostWorld h) (x .calls) .answer) ≡ true
+      → left h (running x) (made h (running x)) ≡ hostBytes (step (hostWorld h) (x .calls) .world) → Stepped h x
 
 -- every byte that was lent came back
 lent-back : (h : Held) (x : Lent Call) (n : ℕ) (out : List ℕ)
@@ -54,7 +54,7 @@ lent-back h x n out e =
     ap (left h (running x)) e
     ∙ (λ i. heldOf (take-append-drop (x .card) (h .card) i) (take-append-drop (x .table) (h .table) i) (take-append-drop (x .pending) (h .pending) i))
 
-module _ (h : Held) (b : IsCard h) (s : sound (worldIn h) ≡ true) (x : Lent Call) (e : made h (running x) .refusal ≡ 0) where
+module _ (h : Held) (b : IsCard h) (s : sound (hostWorld h) ≡ true) (x : Lent Call) (e : made h (running x) .refusal ≡ 0) where
   abbrev card : List ℕ
   card = take (x .card) (h .card)
 
@@ -80,7 +80,7 @@ module _ (h : Held) (b : IsCard h) (s : sound (worldIn h) ≡ true) (x : Lent Ca
   room : (length t ≡ length (h .table)) × (length p ≡ length (h .pending))
   room =
       let same = ap (λ (l : List ℕ). cardIn l .function .config) (whole-card .0) in
-      let r = room-sound (worldOf (cardIn card) t p) (worldIn h) (accepted-sound (worldOf (cardIn card) t p) c yes) s same in
+      let r = room-sound (worldOf (cardIn card) t p) (hostWorld h) (accepted-sound (worldOf (cardIn card) t p) c yes) s same in
       (r .table, r .pending)
 
   whole-table : (t ≡ h .table) × (drop (x .table) (h .table) ≡ [])
@@ -89,21 +89,21 @@ module _ (h : Held) (b : IsCard h) (s : sound (worldIn h) ≡ true) (x : Lent Ca
   whole-pending : (p ≡ h .pending) × (drop (x .pending) (h .pending) ≡ [])
   whole-pending = lent-whole (x .pending) (h .pending) (room .1)
 
-  same-world : worldOf (cardIn card) t p ≡ worldIn h
+  same-world : worldOf (cardIn card) t p ≡ hostWorld h
   same-world = λ i. worldOf (cardIn (whole-card .0 i)) (whole-table .0 i) (whole-pending .0 i)
 
-  now-accepted : isAccepted (step (worldIn h) c .answer) ≡ true
+  now-accepted : isAccepted (step (hostWorld h) c .answer) ≡ true
   now-accepted = ap (λ (w : World). isAccepted (step w c .answer)) (sym same-world) ∙ yes
 
-  leaves : left h (running x) (made h (running x)) ≡ bytesOf (step (worldIn h) c .world)
+  leaves : left h (running x) (made h (running x)) ≡ hostBytes (step (hostWorld h) c .world)
   unfolding cardAfter
   leaves =
       (λ i. heldOf (made h (running x) .card ++ whole-card .1 i) (made h (running x) .table ++ whole-table .1 i) (made h (running x) .pending ++ whole-pending .1 i))
       ∙ (λ i. heldOf (append-nil (made h (running x) .card) i) (append-nil (made h (running x) .table) i) (append-nil (made h (running x) .pending) i))
       ∙ ap leftBy crosses
-      ∙ rw (sym (ap (λ (r : Crossed). r .refusal) crosses) ∙ e) (ap (λ (w : World). bytesOf (step w c .world)) same-world)
+      ∙ rw (sym (ap (λ (r : Crossed). r .refusal) crosses) ∙ e) (ap (λ (w : World). hostBytes (step w c .world)) same-world)
 
-pub stepped : (h : Held) → IsCard h → sound (worldIn h) ≡ true → (x : Lent Call) → Stepped h x
+pub stepped : (h : Held) → IsCard h → sound (hostWorld h) ≡ true → (x : Lent Call) → Stepped h x
 stepped h b s x =
     by-test (eqb (made h (running x) .refusal) 0)
     (λ z. let e = eqb-true (made h (running x) .refusal) 0 z in goes e (now-accepted h b s x e) (leaves h b s x e))
@@ -114,8 +114,8 @@ stepped h b s x =
 -- ---- the bytes of a card that its types can hold
 
 -- a typed world's bytes are a card's, and hold that world
-pub card-of : (w : World) → Typed w → IsCard (bytesOf w)
+pub card-of : (w : World) → Typed w → IsCard (hostBytes w)
 card-of w t = record { bytes = card-bytes w t; read = record { size = card-length w t; flags = card-flags w t } }
 
-pub back-of : (w : World) → Typed w → worldIn (bytesOf w) ≡ w
+pub back-of : (w : World) → Typed w → hostWorld (hostBytes w) ≡ w
 back-of w t = ap (λ (c : Card). worldOf c (w .endpoint .table) (w .endpoint .pending)) (card-reads w t)

@@ -2,8 +2,8 @@
 -- whatever an event of a sound card means is one of them, and nothing else waits. Assumes nothing.
 use mathlib.Core.Path.{_≡_, refl, sym, _∙_}
 use mathlib.Core.Bool.{true, false, true≢false, false≢true}
-use mathlib.Core.Logic.{_↔_}
-use mathlib.Core.Option.{Option, none, some, Option·getD, Option·map, Option·some-ne-none}
+use mathlib.Core.Logic.{_↔_, _⊎_, inl, inr}
+use mathlib.Core.Option.{Option, none, some, Option·some-ne-none}
 use Prim.Native.Nat.{ℕ, _<_}
 use native.Mathlib.Omega.{arith}
 use lib.Dec.{ltb}
@@ -16,7 +16,6 @@ use Rattle.model.specs.declared.Shape.{Shape}
 use Rattle.model.specs.Shape.{shapeOf, msiVectors}
 use Rattle.model.specs.World.{World, Endpoint, Registers, registers}
 use Rattle.model.specs.Vectors.{modeOf, vectorOf, vectorCount, waits}
-use Rattle.model.specs.Release.{isPin}
 use Rattle.model.specs.Start.{Given}
 use Rattle.model.specs.Sound.{sound, shape, givenOf}
 use Rattle.model.specs.History.{isVector}
@@ -45,16 +44,17 @@ counted Msi g k v h = lt-ltb v 32 (omega (arith, few-msi g k))
 counted Msix g k v h = lt-ltb v (shapeOf (g .config) .msix .vectors) h
 
 -- none is meant under the pin alone
-none-pin : (m : Mode) (s : Shape) (r : Registers) (e : ℕ) → vectorOf m s r e ≡ none → isPin m ≡ true
-unfolding vectorOf isPin
+none-pin : (m : Mode) (s : Shape) (r : Registers) (e : ℕ) → vectorOf m s r e ≡ none → m ≡ Pin
+unfolding vectorOf
 none-pin Pin s r e n = refl
 none-pin Msi s r e n = absurd (Option·some-ne-none _ n)
 none-pin Msix s r e n = absurd (Option·some-ne-none e n)
 
--- an event that the card has means a vector, or none with the pin in force
+-- an event that the card has means none, with the pin in force, or a vector: one of the 32 of MSI or one of the N of MSI-X
 pub event-vector : (w : World) → sound w ≡ true → (m : Mode) → modeOf (shape (w .endpoint)) (registers (w .endpoint)) ≡ m
     → (e : ℕ) → e < w .endpoint .function .events
-    → Option·getD (Option·map (isVector (shape (w .endpoint)) m) (vectorOf m (shape (w .endpoint)) (registers (w .endpoint)) e)) (isPin m) ≡ true
+    → let meant : Option ℕ = vectorOf m (shape (w .endpoint)) (registers (w .endpoint)) e in
+    ((m ≡ Pin) × (meant ≡ none)) ⊎ ((v : ℕ) × (meant ≡ some v) × (isVector (shape (w .endpoint)) m v ≡ true))
 event-vector w s m q e h = go (vectorOf m (shape u) (registers u) e) refl
   where
     u : Endpoint
@@ -63,9 +63,12 @@ event-vector w s m q e h = go (vectorOf m (shape u) (registers u) e) refl
     k : SoundEndpoint u
     k = is-sound w s .endpoint
 
-    go : (x : Option ℕ) → vectorOf m (shape u) (registers u) e ≡ x → Option·getD (Option·map (isVector (shape u) m) x) (isPin m) ≡ true
-    go none n = none-pin m (shape u) (registers u) e n
-    go (some v) n = counted m (givenOf u) (accepts (givenOf u) (k .start)) v (vector-counted m u e v k h q n)
+    meant : Option ℕ
+    meant = vectorOf m (shape u) (registers u) e
+
+    go : (x : Option ℕ) → meant ≡ x → ((m ≡ Pin) × (meant ≡ none)) ⊎ ((v : ℕ) × (meant ≡ some v) × (isVector (shape u) m v ≡ true))
+    go none n = inl (none-pin m (shape u) (registers u) e n, n)
+    go (some v) n = inr (v, n, counted m (givenOf u) (accepts (givenOf u) (k .start)) v (vector-counted m u e v k h q n))
 
 waits-counted : (m : Mode) (u : Endpoint) → SoundEndpoint u → (v : ℕ) → waits m u v ≡ true → v < vectorCount m (shape u)
 unfolding waits vectorCount

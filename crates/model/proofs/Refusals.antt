@@ -15,7 +15,7 @@ use Rattle.model.specs.Answers.{isAccepted, refusalOf, valueOf}
 use Rattle.model.specs.Sound.{sound}
 use Rattle.model.specs.Start.{Given, startRefusal}
 use Rattle.model.specs.Image.{restoreRefusal}
-use Rattle.model.specs.Claims.{Unchanged, AllZero, Nothing}
+use Rattle.model.specs.Claims.{Unchanged, AllZero, StartRefused}
 use Rattle.model.specs.Calls.{Call, Outcome, configRead, configWrite, barRead, barWrite, event, line, reset, save, Operation, call, start, restore, operate, answered}
 use Rattle.model.specs.Calls.{rows, next, sends, answerOf, outputOf, refusal, earlierRefusal, refused, step, startOf, restoreOf, zeroWorld}
 use Rattle.model.proofs.Calls.CallLaws.{answered-elim, room-short, room-fits, performed-row, performed-room, step-unsound, step-sound, step-elim}
@@ -42,7 +42,7 @@ refused-start u g =
     (λ _ e. absurd (true≢false e)) (λ _ _. refused-so (zeroWorld u) (startRefusal g) [])
 
 -- its fields one by one
-pub refused-start-zero : (u : Endpoint) (g : Given) → isAccepted (startOf u g .answer) ≡ false → Nothing u (startOf u g)
+pub refused-start-zero : (u : Endpoint) (g : Given) → isAccepted (startOf u g .answer) ≡ false → StartRefused u (startOf u g)
 refused-start-zero u g e =
     let k = refused-start u g e in
     let card : AllZero (cardOf (zeroWorld u)) = record { config = refl; sizes = refl; events = refl; requester = refl; line = refl; waiting = refl; wire = refl } in

@@ -32,7 +32,7 @@ pub record AllZero (c : Card) : Type 0 where
   pub wire : c .wire ≡ false
 
 -- what a refused start leaves of the two lent buffers: they are as they were, and the card that it hands out is all 0
-pub record Nothing (u : Endpoint) (r : Outcome) : Type 0 where
+pub record StartRefused (u : Endpoint) (r : Outcome) : Type 0 where
   pub card : AllZero (cardOf (r .world))
   pub table : r .world .endpoint .table ≡ u .table
   pub pending : r .world .endpoint .pending ≡ u .pending
