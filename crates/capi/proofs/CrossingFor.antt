@@ -6,9 +6,9 @@ use Prim.Native.Nat.{ℕ}
 use native.Mathlib.Omega.{arith}
 use lib.Dec.{eqb}
 use lib.ListN.{length}
-use borrow.Author.Tests.{eq-eqb, ne-eqb}
+use borrow.Author.Tests.{eq-eqb, ne-eqb, eqb-true, eqb-false}
 use Rattle.words.specs.Bytes.{Bytes}
-use Rattle.words.proofs.BoolLaws.{cond-elim, row-passes, row-refuses, no-row}
+use Rattle.words.proofs.BoolLaws.{by-test, cond-elim, row-passes, row-refuses, no-row}
 use Rattle.model.specs.declared.Card.{Card}
 use Rattle.model.specs.Answers.{refusalOf, valueOf, eventCode}
 use Rattle.model.specs.World.{worldOf, cardOf}
@@ -22,13 +22,21 @@ use Rattle.card.specs.declared.outcome.Outcome.{Outcome}
 use Rattle.card.specs.Outcomes.{after}
 use Rattle.capi.specs.declared.bytes.Numbers.{Numbers}
 use Rattle.capi.specs.Numbers.{numbersOf}
-use Rattle.capi.specs.Crossing.{handed, unread, cardOver, cardAfter, back, crossed}
+use Rattle.capi.specs.Crossing.{Crossed, handed, unread, cardOver, cardAfter, back, crossed}
 use Rattle.capi.proofs.CardFor.{Readable}
 
 -- refused before the card is read, with the number n
 pub stopped : (card t p : List ℕ) (o : Operation) (n : ℕ) → n ≡ unread card o → (n ≡ 0 → ⊥) → handed n card t p (lentOutput o) 0 0 0 ≡ crossed card t p o
 unfolding crossed
 stopped card t p o n e h = rw (← e, ne-eqb n 0 h)
+
+-- a function that returns 0 read its card
+pub zero-read : (card t p : List ℕ) (o : Operation) → crossed card t p o .refusal ≡ 0 → unread card o ≡ 0
+zero-read card t p o e =
+    by-test (eqb (unread card o) 0) (eqb-true (unread card o) 0)
+    (λ z.
+    let n = eqb-false (unread card o) 0 z in
+    absurd (n (ap (λ (x : Crossed). x .refusal) (stopped card t p o (unread card o) refl n) ∙ e)))
 
 -- the operation o gave the outcome r, with the later buffers t′, p′ and out′
 module _ (card t p : List ℕ) (o : Operation) (x : unread card o ≡ 0) (r : Outcome) (t′ p′ out′ : List ℕ)

@@ -34,7 +34,7 @@ use Rattle.capi.specs.Crossing.{Crossed, cardAfter, back, crossed}
 use Rattle.capi.specs.Hosts.{Held, Lent, made, left, HostRun, answerOf, running, hostCalled, hostRun, waitingBit, registersIn}
 use Rattle.capi.specs.HostClaims.{leftBy, Remembers}
 use Rattle.capi.proofs.CardFor.{read-lengths}
-use Rattle.capi.proofs.HostResumes.{zero-read}
+use Rattle.capi.proofs.CrossingFor.{zero-read}
 use Rattle.capi.proofs.Refused.{read-through}
 use Rattle.capi.proofs.HostStep.{hostWorld, hostBytes, IsCard, Stepped, stays, goes, stepped, card-of, back-of}
 
@@ -45,11 +45,11 @@ abbrev runOf : HostRun → Run
 runOf h = record { world = hostWorld (h .held); past = h .past }
 
 -- what every call keeps
-record Fine (g : Given) (h : HostRun) : Type 0 where
+record HostGood (g : Given) (h : HostRun) : Type 0 where
   card : IsCard (h .held)
   good : Good g (runOf h)
 
-module _ (g : Given) (ok : startRefusal g ≡ 0) (m : Mode) (v : ℕ) (h : HostRun) (i : Fine g h) (x : Lent Call) where
+module _ (g : Given) (ok : startRefusal g ≡ 0) (m : Mode) (v : ℕ) (h : HostRun) (i : HostGood g h) (x : Lent Call) where
   abbrev r : Crossed
   r = made (h .held) (running x)
 
@@ -59,7 +59,7 @@ module _ (g : Given) (ok : startRefusal g ≡ 0) (m : Mode) (v : ℕ) (h : HostR
   -- the law of the call, where it leaves k
   abbrev LawAt : Held → Type 0
   LawAt k =
-      Law hostCalled (λ (h : HostRun). h .past) (λ (h : HostRun). waits m (hostWorld (h .held) .endpoint) v) (Fine g) (heldBy g m v) (clearedBy g m v) h
+      Law hostCalled (λ (h : HostRun). h .past) (λ (h : HostRun). waits m (hostWorld (h .held) .endpoint) v) (HostGood g) (heldBy g m v) (clearedBy g m v) h
       (record { held = k; past = entryOf (x .calls) (answerOf r) bytes ∷ h .past })
 
   refused-law : (r .refusal ≡ 0 → ⊥) → LawAt (h .held)
@@ -107,21 +107,21 @@ module _ (g : Given) (ok : startRefusal g ≡ 0) (t : Typed (startedWorld g)) wh
   abbrev first : HostRun
   first = record { held = hostBytes (startedWorld g); past = [] }
 
-  fine : Fine g first
+  fine : HostGood g first
   fine = record {
     card = card-of (startedWorld g) t;
     good = subst (λ (w : World). Good g (record { world = w; past = [] })) (sym (back-of (startedWorld g) t)) (started-good g ok);
   }
 
-  law : (m : Mode) (v : ℕ) (h : HostRun) (x : Lent Call) → Fine g h
-      → Law hostCalled (λ (h : HostRun). h .past) (λ (h : HostRun). waits m (hostWorld (h .held) .endpoint) v) (Fine g) (heldBy g m v) (clearedBy g m v) h (hostCalled h x)
+  law : (m : Mode) (v : ℕ) (h : HostRun) (x : Lent Call) → HostGood g h
+      → Law hostCalled (λ (h : HostRun). h .past) (λ (h : HostRun). waits m (hostWorld (h .held) .endpoint) v) (HostGood g) (heldBy g m v) (clearedBy g m v) h (hostCalled h x)
   unfolding hostCalled
   law m v h x i = call-law g ok m v h i x
 
   registers-kept : (calls : List (Lent Call)) → registersIn (hostRun (hostBytes (startedWorld g)) calls .held) ≡ registersBy g (hostRun (hostBytes (startedWorld g)) calls .past)
   unfolding hostRun
   registers-kept calls =
-      let all : Fine g (foldl hostCalled first calls) = list-keeps hostCalled (Fine g) (λ h x i. law Msi 0 h x i .good) first calls fine in
+      let all : HostGood g (foldl hostCalled first calls) = list-keeps hostCalled (HostGood g) (λ h x i. law Msi 0 h x i .good) first calls fine in
       registers-in (foldl hostCalled first calls .held) ∙ all .good .same
 
   bits-kept : (calls : List (Lent Call)) (m : Mode) (v : ℕ)
@@ -129,7 +129,7 @@ module _ (g : Given) (ok : startRefusal g ≡ 0) (t : Typed (startedWorld g)) wh
   unfolding hostRun
   bits-kept calls m v =
       rw (bit-in m (foldl hostCalled first calls .held) v)
-      (bit-iff hostCalled (λ (h : HostRun). h .past) (λ (h : HostRun). waits m (hostWorld (h .held) .endpoint) v) (Fine g) (heldBy g m v) (clearedBy g m v)
+      (bit-iff hostCalled (λ (h : HostRun). h .past) (λ (h : HostRun). waits m (hostWorld (h .held) .endpoint) v) (HostGood g) (heldBy g m v) (clearedBy g m v)
       (λ x before. (resets x ≡ false) × (openBy g (x ∷ before) m v ≡ false)) (λ x before. cleared-not g m v x before) (λ h x i. law m v h x i) first fine refl
       (ap (λ (w : World). waits m (w .endpoint) v) (back-of (startedWorld g) t) ∙ started-waits g ok m v) calls)
 

@@ -5,9 +5,8 @@ use mathlib.Core.List.{List, []}
 use Prim.Native.Nat.{ℕ}
 use lib.Dec.{eqb}
 use lib.ListN.{length, take}
-use borrow.Author.Tests.{eqb-true, eqb-false}
 use Rattle.words.specs.Bytes.{Bytes}
-use Rattle.words.proofs.BoolLaws.{by-test, cond-elim}
+use Rattle.words.proofs.BoolLaws.{cond-elim}
 use Rattle.model.specs.declared.Answer.the-variants.{Done}
 use Rattle.model.specs.Answers.{refusalOf, isAccepted}
 use Rattle.model.specs.World.{World, worldOf}
@@ -19,21 +18,13 @@ use Rattle.model.proofs.ImageExact.{restored}
 use Rattle.model.proofs.RestoreResumes.{Saved, save-saved}
 use Rattle.model.proofs.Calls.AnswerLaws.{numbered, is-done}
 use Rattle.model.proofs.Calls.OutcomeLaws.{zero-accepted}
-use Rattle.capi.specs.Crossing.{Crossed, handed, unread, cardOver, cardAfter, back, crossed}
+use Rattle.capi.specs.Crossing.{Crossed, handed, cardOver, cardAfter, back, crossed}
 use Rattle.capi.specs.Hosts.{Held, heldOf, Lent, heldAfter, crossings}
 use Rattle.capi.specs.HostClaims.{leftBy, ResumesBytes}
 use Rattle.capi.proofs.CardFor.{Readable, read-call}
-use Rattle.capi.proofs.CrossingFor.{stopped, restore-reads}
+use Rattle.capi.proofs.CrossingFor.{zero-read, restore-reads}
 use Rattle.capi.proofs.HostFor.{after-lengths}
 use Rattle.capi.proofs.Refused.{read-through}
-
--- a function that returns 0 read its card
-pub zero-read : (card t p : List ℕ) (o : Operation) → crossed card t p o .refusal ≡ 0 → unread card o ≡ 0
-zero-read card t p o e =
-    by-test (eqb (unread card o) 0) (eqb-true (unread card o) 0)
-    (λ z.
-    let n = eqb-false (unread card o) 0 z in
-    absurd (n (ap (λ (x : Crossed). x .refusal) (stopped card t p o (unread card o) refl n) ∙ e)))
 
 -- an accepted outcome of a restore, as it crosses
 restored-back : (card t p image : List ℕ) → length card ≡ 289 → (v : World) → restoreOf (worldOf (cardIn card) t p) image ≡ accepted v Done [] []

@@ -24,7 +24,7 @@ use Rattle.capi.specs.Hosts.{Held, heldOf, Lent, made, left, running}
 use Rattle.capi.specs.HostClaims.{leftBy}
 use Rattle.capi.proofs.CardFor.{Readable, read-call}
 use Rattle.capi.proofs.HostFor.{lent-whole}
-use Rattle.capi.proofs.HostResumes.{zero-read}
+use Rattle.capi.proofs.CrossingFor.{zero-read}
 use Rattle.capi.proofs.Refused.{read-through, refused-call}
 
 -- the card and the buffers in the bytes that a host holds

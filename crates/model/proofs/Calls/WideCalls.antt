@@ -1,15 +1,16 @@
 -- Numbers wider than a type: a rule that refuses every number from k on gives k and the wide number the same answer, so that the largest number of
 -- the type may be handed on in place of a wider one. Assumes nothing.
 use mathlib.Core.Path.{_≡_, refl, sym, ap, ap₂, _∙_}
-use mathlib.Core.Bool.{Bool, true, false, not, _&&_, _||_, or-false, false≢true}
+use mathlib.Core.Bool.{Bool, true, false, not, _&&_, _||_, or-assoc, or-false, false≢true}
 use mathlib.Core.List.{List, [], _∷_}
 use Prim.Native.Nat.{ℕ, _+_, _%_, _^_, _≤_, _<_, min}
 use native.Mathlib.Nat.{min-eq-left, min-comm, le-of-lt}
 use native.Mathlib.Omega.{arith}
 use lib.Dec.{ltb, leb, eqb}
 use borrow.Author.Tests.{eqb-true, leb-true, leb-false, ltb-false, ltb-true, not-false}
-use Rattle.words.specs.Lists.{firstOf, within}
+use Rattle.words.specs.Lists.{all, member, firstOf, within}
 use Rattle.words.specs.Bytes.{byte, Below}
+use Rattle.words.proofs.ListLaws.{all-holds}
 use Rattle.words.proofs.BytesLaws.{byte-below}
 use Rattle.words.proofs.BoolLaws.{both, neither, second-false, by-test, passed}
 use Rattle.model.specs.declared.Region.{Region}
@@ -59,22 +60,18 @@ alike w c d o e i =
     step-sound w c s ∙ performed-row w c n (e s) z ∙ rw o (sym (performed-row w d n refl z)) ∙ sym (step-sound w d s)))
     (λ s. step-unsound w c s ∙ rw o (sym (step-unsound w d s)))
 
--- one of two numbers
-either-small : (n a k : ℕ) (rest : Bool) → a < k → (rest ≡ true → n < k) → (rest || eqb n a) ≡ true → n < k
-either-small n a k rest h f e =
-    by-test (eqb n a) (λ t. omega (arith, eqb-true n a t)) (λ t. f (sym (or-false rest) ∙ rw t at e))
+-- a width that is one of a list, all below 255
+width-fits : (l : List ℕ) → all (λ k. ltb k 255) l ≡ true → (n : ℕ) → member n l ≡ true → n < 255
+width-fits l e n m = ltb-true n 255 (all-holds (λ k. ltb k 255) l e n m)
 
 -- 3
-width-fits : (n : ℕ) → (eqb n 1 || eqb n 2 || eqb n 4) ≡ true → n < 255
-width-fits n =
-    either-small n 4 255 (eqb n 1 || eqb n 2) (omega arith) (either-small n 2 255 (eqb n 1) (omega arith) (λ t. omega (arith, eqb-true n 1 t)))
-
 config-fits : (o n : ℕ) → badConfig o n ≡ false → (o < 65535) × (n < 255)
-unfolding badConfig
+unfolding badConfig all member
 config-fits o n e =
     let p = neither (not (eqb n 1 || eqb n 2 || eqb n 4) || not (eqb (o % n) 0)) (ltb 255 o) e in
     let q = neither (not (eqb n 1 || eqb n 2 || eqb n 4)) (not (eqb (o % n) 0)) (p .0) in
-    (omega (arith, ltb-false 255 o (p .1)), width-fits n (not-false (eqb n 1 || eqb n 2 || eqb n 4) (q .0)))
+    let m : member n (1 ∷ 2 ∷ 4 ∷ []) ≡ true = rw (or-false, ← or-assoc) (not-false (eqb n 1 || eqb n 2 || eqb n 4) (q .0)) in
+    (omega (arith, ltb-false 255 o (p .1)), width-fits (1 ∷ 2 ∷ 4 ∷ []) refl n m)
 
 module _ (w : World) (o n : ℕ) where
   same-config : badConfig (min o 65535) (min n 255) ≡ badConfig o n
@@ -127,14 +124,15 @@ place-fits sizes small s b o u e =
 
 module _ (sizes : List ℕ) (small : Below (256 ^ 4) sizes) (s : Shape) (u : badRegions sizes s ≡ false) where
   bar-fits : (b o n : ℕ) → badBar s b o n ≡ false → (b < 255) × (o < 4294967295) × (n < 255)
-  unfolding badBar
+  unfolding badBar all member
   bar-fits b o n e =
       let p = neither (ltb 5 b || not (eqb n 4 || eqb n 8) || not (eqb (o % n) 0)) (not (inTable s b o || inPending s b o)) e in
       let q = neither (ltb 5 b || not (eqb n 4 || eqb n 8)) (not (eqb (o % n) 0)) (p .0) in
-      let r = neither (ltb 5 b) (not (eqb n 4 || eqb n 8)) (q .0) in (
+      let r = neither (ltb 5 b) (not (eqb n 4 || eqb n 8)) (q .0) in
+      let m : member n (4 ∷ 8 ∷ []) ≡ true = rw or-false (not-false (eqb n 4 || eqb n 8) (r .1)) in (
         omega (arith, ltb-false 5 b (r .0)),
         place-fits sizes small s b o u (not-false (inTable s b o || inPending s b o) (p .1)),
-        either-small n 8 255 (eqb n 4) (omega arith) (λ t. omega (arith, eqb-true n 4 t)) (not-false (eqb n 4 || eqb n 8) (r .1)),
+        width-fits (4 ∷ 8 ∷ []) refl n m,
       )
 
   same-bar : (b o n : ℕ) → badBar s (min b 255) (min o 4294967295) (min n 255) ≡ badBar s b o n
