@@ -30,6 +30,11 @@ pub stopped : (card t p : List ℕ) (o : Operation) (n : ℕ) → n ≡ unread c
 unfolding crossed
 stopped card t p o n e h = rw (← e, ne-eqb n 0 h)
 
+-- or read: the operation on the card that the bytes hold
+pub read-through : (card t p : List ℕ) (o : Operation) → unread card o ≡ 0 → crossed card t p o ≡ back card o (operate (worldOf (cardIn card) t p) o)
+unfolding crossed
+read-through card t p o x = rw x
+
 -- a function that returns 0 read its card
 pub zero-read : (card t p : List ℕ) (o : Operation) → crossed card t p o .refusal ≡ 0 → unread card o ≡ 0
 zero-read card t p o e =

@@ -20,8 +20,7 @@ use Rattle.model.proofs.Calls.SizeLaws.{sized-step, sized-start}
 use Rattle.capi.specs.Crossing.{Crossed, unread, cardAfter, crossed}
 use Rattle.capi.specs.Hosts.{Held, Lent, made, left, heldAfter, RightLengths}
 use Rattle.capi.proofs.CardFor.{read-lengths}
-use Rattle.capi.proofs.CrossingFor.{stopped}
-use Rattle.capi.proofs.Refused.{read-through}
+use Rattle.capi.proofs.CrossingFor.{stopped, read-through}
 
 -- ---- what is lent of a list
 

@@ -34,8 +34,7 @@ use Rattle.capi.specs.Crossing.{Crossed, cardAfter, back, crossed}
 use Rattle.capi.specs.Hosts.{Held, Lent, made, left, HostRun, answerOf, running, hostCalled, hostRun, waitingBit, registersIn}
 use Rattle.capi.specs.HostClaims.{leftBy, Remembers}
 use Rattle.capi.proofs.CardFor.{read-lengths}
-use Rattle.capi.proofs.CrossingFor.{zero-read}
-use Rattle.capi.proofs.Refused.{read-through}
+use Rattle.capi.proofs.CrossingFor.{zero-read, read-through}
 use Rattle.capi.proofs.HostStep.{hostWorld, hostBytes, IsCard, Stepped, stays, goes, stepped, card-of, back-of}
 
 -- ---- the law of one call

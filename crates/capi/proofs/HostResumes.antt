@@ -22,9 +22,8 @@ use Rattle.capi.specs.Crossing.{Crossed, handed, cardOver, cardAfter, ba
 use Rattle.capi.specs.Hosts.{Held, heldOf, Lent, heldAfter, crossings}
 use Rattle.capi.specs.HostClaims.{leftBy, ResumesBytes}
 use Rattle.capi.proofs.CardFor.{Readable, read-call}
-use Rattle.capi.proofs.CrossingFor.{zero-read, restore-reads}
+use Rattle.capi.proofs.CrossingFor.{zero-read, restore-reads, read-through}
 use Rattle.capi.proofs.HostFor.{after-lengths}
-use Rattle.capi.proofs.Refused.{read-through}
 
 -- an accepted outcome of a restore, as it crosses
 restored-back : (card t p image : List ℕ) → length card ≡ 289 → (v : World) → restoreOf (worldOf (cardIn card) t p) image ≡ accepted v Done [] []

@@ -22,7 +22,7 @@ use Rattle.model.proofs.Calls.AnswerLaws.{not-accepted, refused-code}
 use Rattle.model.proofs.Image.ImageLaws.{zero-bytes}
 use Rattle.capi.specs.Crossing.{Crossed, handed, unread, cardAfter, back, crossed}
 use Rattle.capi.specs.Hosts.{RightLengths}
-use Rattle.capi.proofs.CrossingFor.{stopped}
+use Rattle.capi.proofs.CrossingFor.{stopped, read-through}
 
 number-of : (x : Crossed) (n : ℕ) (card t p out : List ℕ) → x ≡ handed n card t p out 0 0 0 → x ≡ handed (x .refusal) card t p out 0 0 0
 number-of x n card t p out e = e ∙ ap (λ (k : ℕ). handed k card t p out 0 0 0) (sym (ap (λ (y : Crossed). y .refusal) e))
@@ -36,10 +36,6 @@ refused-back card o w out r f h =
     let k : Unchanged w out r = f n in
     λ i. handed (refusalOf (r .answer)) (cardAfter card o r) (k .world i .endpoint .table) (k .world i .endpoint .pending) (k .output i) (k .value i)
     (refused-code (r .answer) n i) (k .count i)
-
-pub read-through : (card t p : List ℕ) (o : Operation) → unread card o ≡ 0 → crossed card t p o ≡ back card o (operate (worldOf (cardIn card) t p) o)
-unfolding crossed
-read-through card t p o x = rw x
 
 -- ---- every byte as it was
 
