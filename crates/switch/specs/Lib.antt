@@ -1,0 +1,4 @@
+pub mod Switches
+pub mod Calls
+pub mod History
+pub mod Claims
