@@ -1,0 +1,2 @@
+pub mod SwitchLaws
+pub mod StepLaws
