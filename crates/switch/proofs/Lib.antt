@@ -1,2 +1,3 @@
 pub mod SwitchLaws
 pub mod StepLaws
+pub mod PortWire
