@@ -1,3 +1,5 @@
 pub mod SwitchLaws
 pub mod StepLaws
 pub mod PortWire
+pub mod HeardLaws
+pub mod HostAgrees

@@ -94,7 +94,11 @@ requester-taking s k (Message m) = refl
 requester-taking s k (Wire w) = refl
 requester-taking s k Other = refl
 
-pub requester-next : (s : Switch) (c : SwitchCall) → nextSwitch s c .requester ≡ s .requester
+requester-next : (s : Switch) (c : SwitchCall) → nextSwitch s c .requester ≡ s .requester
 unfolding nextSwitch withoutPort
 requester-next s (pass k bytes out) = requester-taking s k (decoded bytes)
 requester-next s (down k out) = refl
+
+-- every call, accepted or refused, leaves it
+pub requester-kept : (s : Switch) (c : SwitchCall) → switchStep s c .switch .requester ≡ s .requester
+requester-kept s c = step-elim s c (λ (r : Switched). r .switch .requester ≡ s .requester) (λ _. requester-next s c) (λ _. refl)
