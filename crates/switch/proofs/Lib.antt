@@ -3,3 +3,4 @@ pub mod StepLaws
 pub mod PortWire
 pub mod HeardLaws
 pub mod HostAgrees
+pub mod Refusals
