@@ -1,3 +1,9 @@
+pub mod PortWire
+pub mod HostAgrees
+pub mod Refusals
+pub mod SwitchLaws
+pub mod StepLaws
+pub mod HeardLaws
 pub mod JoinLaws
 pub mod ChangeLaws
 pub mod CallFor

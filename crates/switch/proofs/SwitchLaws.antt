@@ -1,0 +1,185 @@
+-- The wires of a switch after a change of one of them, or of a port's, and the upstream wires by the wires of the ports.
+-- A changed switch keeps its shape whatever the numbers are. Assumes nothing.
+use mathlib.Core.Path.{_≡_, refl, sym, ap, _∙_}
+use mathlib.Core.Bool.{Bool, true, false, cond, _&&_, false≢true, or-true}
+use mathlib.Core.List.{List, [], _∷_}
+use mathlib.Core.Logic.{_↔_}
+use Prim.Native.Nat.{ℕ, zero, suc, _-_, _≤_, _<_}
+use native.Mathlib.Omega.{arith}
+use lib.Dec.{eqb}
+use lib.ListN.{length, set, getD, replicate, length-set}
+use lib.Seq.{getD-set-same, getD-set-other}
+use borrow.Author.Tests.{eqb-true, eqb-false, eq-eqb}
+use Rattle.words.specs.Lists.{count, member}
+use Rattle.words.proofs.BoolLaws.{by-test, both, and-intro, same-test}
+use Rattle.words.proofs.ListLaws.{member-head, member-tail, member-count, count-member}
+use Rattle.switch.specs.declared.Port.{Port}
+use Rattle.switch.specs.declared.Switch.{Switch}
+use Rattle.switch.specs.Switches.{portOf, switchOf, idle, fresh, wiresOf, wireOf, level, withLevel, withoutPort, upstreamPin, some, drives, upstream}
+use Rattle.switch.specs.Claims.{Shaped}
+
+-- ---- eight ports of four wires
+
+-- what is so of a new element and of the old one is so of the element after a change
+set-elim : {A : Type 0} (P : A → Type 0) (l : List A) (j k : ℕ) (x d : A) → P x → P (getD l k d) → P (getD (set l j x) k d)
+set-elim P [] j k x d p q = q
+set-elim P (y ∷ l) zero zero x d p q = p
+set-elim P (y ∷ l) zero (suc k) x d p q = q
+set-elim P (y ∷ l) (suc j) zero x d p q = q
+set-elim P (y ∷ l) (suc j) (suc k) x d p q = set-elim P l j k x d p q
+
+-- any place of equal elements, also past their end
+all-equal : {A : Type 0} (n i : ℕ) (a : A) → getD (replicate n a) i a ≡ a
+all-equal zero i a = refl
+all-equal (suc n) zero a = refl
+all-equal (suc n) (suc i) a = all-equal n i a
+
+shaped-set : (s : Switch) (j : ℕ) (wires : List Bool) → length wires ≡ 4 → Shaped s → Shaped (switchOf (s .requester) (set (s .ports) j (portOf wires)))
+shaped-set s j wires e h = record {
+  ports = length-set (s .ports) j (portOf wires) ∙ h .ports;
+  wires = λ k. set-elim (λ (p : Port). length (p .wires) ≡ 4) (s .ports) j k (portOf wires) idle e (h .wires k);
+}
+
+pub shaped-fresh : (requester : ℕ) → Shaped (fresh requester)
+unfolding fresh
+shaped-fresh requester = record { ports = refl; wires = λ k. ap (λ (p : Port). length (p .wires)) (all-equal 8 k idle) }
+
+pub shaped-level : (s : Switch) (j p : ℕ) (b : Bool) → Shaped s → Shaped (withLevel s j p b)
+unfolding withLevel
+shaped-level s j p b h = shaped-set s j (set (wiresOf s j) (p - 1) b) (length-set (wiresOf s j) (p - 1) b ∙ h .wires j) h
+
+pub shaped-down : (s : Switch) (j : ℕ) → Shaped s → Shaped (withoutPort s j)
+unfolding withoutPort
+shaped-down s j h = shaped-set s j (idle .wires) refl h
+
+-- ---- the level of a wire
+
+idle-wire : (p : ℕ) → wireOf (idle .wires) p ≡ false
+idle-wire p = all-equal 4 (p - 1) false
+
+pub level-fresh : (requester k p : ℕ) → level (fresh requester) k p ≡ false
+unfolding fresh level
+level-fresh requester k p = ap (λ (x : Port). wireOf (x .wires) p) (all-equal 8 k idle) ∙ idle-wire p
+
+-- of a pin among a port's
+wire-set : (wires : List Bool) (q p : ℕ) (b : Bool) → length wires ≡ 4 → 1 ≤ q → q ≤ 4 → 1 ≤ p
+    → wireOf (set wires (q - 1) b) p ≡ cond (eqb q p) b (wireOf wires p)
+wire-set wires q p b n q1 q4 p1 =
+    by-test (eqb q p) (λ e. rw (← eqb-true q p e, eq-eqb q q refl) (getD-set-same wires (q - 1) b false (omega arith)))
+    (λ e. let ne : q ≡ p → ⊥ = eqb-false q p e in rw e (getD-set-other wires (q - 1) (p - 1) b false (λ x. ne (omega arith))))
+
+module _ (s : Switch) (h : Shaped s) (j : ℕ) (i : j < 8) where
+  -- of a port that is another one now
+  level-port : (wires : List Bool) (k p : ℕ)
+      → level (switchOf (s .requester) (set (s .ports) j (portOf wires))) k p ≡ cond (eqb j k) (wireOf wires p) (level s k p)
+  unfolding level
+  level-port wires k p =
+      by-test (eqb j k)
+      (λ e. rw (← eqb-true j k e, eq-eqb j j refl) (ap (λ (x : Port). wireOf (x .wires) p) (getD-set-same (s .ports) j (portOf wires) idle (omega (arith, h .ports)))))
+      (λ e. rw e (ap (λ (x : Port). wireOf (x .wires) p) (getD-set-other (s .ports) j k (portOf wires) idle (λ q. eqb-false j k e (sym q)))))
+
+  -- the wire of pin q at port j has its new level, and every other one its old
+  pub level-set : (q : ℕ) (b : Bool) (k p : ℕ) → 1 ≤ q → q ≤ 4 → 1 ≤ p → level (withLevel s j q b) k p ≡ cond (eqb j k && eqb q p) b (level s k p)
+  unfolding withLevel level
+  level-set q b k p q1 q4 p1 =
+      level-port (set (wiresOf s j) (q - 1) b) k p
+      ∙ by-test (eqb j k) (λ e. rw (← eqb-true j k e, eq-eqb j j refl) (wire-set (wiresOf s j) q p b (h .wires j) q1 q4 p1)) (λ e. rw e)
+
+  -- the wires of port j are inactive, and every other one has its old level
+  pub level-down : (k p : ℕ) → level (withoutPort s j) k p ≡ cond (eqb j k) false (level s k p)
+  unfolding withoutPort
+  level-down k p = level-port (idle .wires) k p ∙ rw (idle-wire p)
+
+-- ---- the upstream wires
+
+-- a number of a list that passes a test
+record Passing (f : ℕ → Bool) (l : List ℕ) : Type 0 where
+  number : ℕ
+  listed : member number l ≡ true
+  passes : f number ≡ true
+
+some-true : (f : ℕ → Bool) (l : List ℕ) → some f l ≡ true → Passing f l
+unfolding some
+some-true f [] e = absurd (false≢true e)
+some-true f (x ∷ l) e = by-test (f x) (λ p. record { number = x; listed = member-head x l; passes = p }) (λ p. let r = some-true f l (rw p at e) in
+    record { number = r .number; listed = member-tail (r .number) x l (r .listed); passes = r .passes })
+
+true-some : (f : ℕ → Bool) (l : List ℕ) (x : ℕ) → member x l ≡ true → f x ≡ true → some f l ≡ true
+unfolding some member
+true-some f [] x m p = m
+true-some f (y ∷ l) x m p = by-test (eqb x y) (λ e. rw (← eqb-true x y e, p)) (λ e. rw (true-some f l x (rw e at m) p) (or-true (f y)))
+
+-- a wire of a port that becomes upstream pin q and is active
+pub record Driven (s : Switch) (q : ℕ) : Type 0 where
+  pub port : ℕ
+  pub pin : ℕ
+  pub isPort : port < 8
+  pub first : 1 ≤ pin
+  pub last : pin ≤ 4
+  pub mapped : upstreamPin port pin ≡ q
+  pub active : level s port pin ≡ true
+
+-- "The upstream wire is active while any port's mapped wire is": exactly then
+pub upstream-iff : (s : Switch) (q : ℕ) → (upstream s q ≡ true) ↔ Driven s q
+unfolding upstream drives level
+upstream-iff s q = (λ e. found (some-true (λ k. drives k (wiresOf s k) q) (count 0 8) e), drive)
+  where
+    test : (k p : ℕ) → Bool
+    test k p = eqb (upstreamPin k p) q && wireOf (wiresOf s k) p
+
+    found : Passing (λ k. drives k (wiresOf s k) q) (count 0 8) → Driven s q
+    found a =
+        let k = a .number in
+        let b = some-true (test k) (count 1 4) (a .passes) in
+        let ports = member-count 0 8 k (a .listed) in
+        let pins = member-count 1 4 (b .number) (b .listed) in
+        let on = both (eqb (upstreamPin k (b .number)) q) (wireOf (wiresOf s k) (b .number)) (b .passes) in
+        record {
+          port = k;
+          pin = b .number;
+          isPort = omega (arith, ports .1);
+          first = pins .0;
+          last = omega (arith, pins .1);
+          mapped = eqb-true (upstreamPin k (b .number)) q (on .0);
+          active = on .1;
+        }
+
+    drive : Driven s q → upstream s q ≡ true
+    drive d =
+        true-some (λ k. drives k (wiresOf s k) q) (count 0 8) (d .port) (count-member 0 8 (d .port) (omega arith) (omega (arith, d .isPort)))
+        (true-some (test (d .port)) (count 1 4) (d .pin) (count-member 1 4 (d .pin) (d .first) (omega (arith, d .last)))
+        (and-intro (eqb (upstreamPin (d .port) (d .pin)) q) (wireOf (wiresOf s (d .port)) (d .pin)) (eq-eqb (upstreamPin (d .port) (d .pin)) q (d .mapped)) (d .active)))
+
+-- an upstream wire that is active by one switch is so by another, where each wire that becomes it is
+pub upstream-mono : (s t : Switch) (q : ℕ) → ((k p : ℕ) → k < 8 → 1 ≤ p → p ≤ 4 → upstreamPin k p ≡ q → level s k p ≡ true → level t k p ≡ true)
+    → upstream s q ≡ true → upstream t q ≡ true
+upstream-mono s t q f e =
+    let d = upstream-iff s q .0 e in
+    upstream-iff t q .1 (record {
+      port = d .port;
+      pin = d .pin;
+      isPort = d .isPort;
+      first = d .first;
+      last = d .last;
+      mapped = d .mapped;
+      active = f (d .port) (d .pin) (d .isPort) (d .first) (d .last) (d .mapped) (d .active);
+    })
+
+-- two switches at which each wire that becomes an upstream wire has the same level
+pub upstream-same : (s t : Switch) (q : ℕ) → ((k p : ℕ) → k < 8 → 1 ≤ p → p ≤ 4 → upstreamPin k p ≡ q → level s k p ≡ level t k p)
+    → upstream s q ≡ upstream t q
+upstream-same s t q f =
+    same-test (upstream s q) (upstream t q) (upstream-mono s t q (λ k p a b c m e. sym (f k p a b c m) ∙ e))
+    (upstream-mono t s q (λ k p a b c m e. f k p a b c m ∙ e))
+
+-- no upstream wire of a fresh switch is active
+pub upstream-fresh : (requester q : ℕ) → upstream (fresh requester) q ≡ false
+upstream-fresh requester q =
+    by-test (upstream (fresh requester) q)
+    (λ e. let d = upstream-iff (fresh requester) q .0 e in absurd (false≢true (sym (level-fresh requester (d .port) (d .pin)) ∙ d .active)))
+    (λ e. e)
+
+-- an upstream pin is 1 to 4
+pub upstream-pin : (k p : ℕ) → (1 ≤ upstreamPin k p) × (upstreamPin k p ≤ 4)
+unfolding upstreamPin
+upstream-pin k p = (omega arith, omega arith)
