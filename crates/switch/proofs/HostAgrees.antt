@@ -21,7 +21,8 @@ use Rattle.switch.specs.Calls.{SwitchCall, pass, down, Switched, nextSwi
 use Rattle.switch.specs.History.{SwitchEntry, entryOf, SwitchPast, SwitchRun, switchCalled, switchRun, heard, DrivenBy}
 use Rattle.switch.proofs.SwitchLaws.{upstream-iff, upstream-fresh}
 use Rattle.switch.proofs.StepLaws.{step-accepted, step-refused, entry-accepted, entry-refused, requester-kept}
-use Rattle.switch.proofs.HeardLaws.{Says, says-nothing, says-changes, says-forwarded, changes-agree}
+use Rattle.switch.proofs.ChangeLaws.{changes-agree}
+use Rattle.switch.proofs.HeardLaws.{Says, says-nothing, says-changes, says-forwarded}
 use Rattle.switch.proofs.PortWire.{port-wire}
 
 -- ---- one call

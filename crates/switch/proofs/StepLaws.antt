@@ -1,16 +1,17 @@
 -- Every call of a switch is accepted or refused, by its refusal number, and what an entry of the past then says.
 -- Assumes nothing.
 use mathlib.Core.Path.{_≡_, refl, ap, _∙_}
-use mathlib.Core.Bool.{false}
+use mathlib.Core.Bool.{true, false, false≢true}
 use mathlib.Core.List.{List, []}
 use Prim.Native.Nat.{ℕ, _≤_, _<_}
 use native.Mathlib.Omega.{arith}
 use lib.Dec.{ltb, eqb}
 use lib.ListN.{length, drop}
 use lib.Seq.{take-at}
-use borrow.Author.Tests.{eq-eqb, eqb-true, ltb-false}
-use Rattle.words.proofs.BoolLaws.{cond-elim, neither, passed}
+use borrow.Author.Tests.{eq-eqb, eqb-true, le-ltb, ltb-false}
+use Rattle.words.proofs.BoolLaws.{cond-elim, neither, or-intro, passed, row-passes, no-row}
 use Rattle.model.specs.declared.Answer.the-variants.{Refused, Done}
+use Rattle.model.specs.Answers.{isAccepted}
 use Rattle.tlp.specs.declared.decode.Packet.{Packet}
 use Rattle.tlp.specs.declared.decode.Packet.the-variants.{Message, Wire, Other}
 use Rattle.tlp.specs.Decoded.{decoded}
@@ -46,12 +47,25 @@ module _ (s : Switch) (c : SwitchCall) where
       let second = passed 6 _ refl (first .1) in
       (first .0, ltb-false (length (outputOf c)) (length (sends s c)) (second .0))
 
+  -- and the other way round
+  pub zero-refusal : badCall c ≡ false → length (sends s c) ≤ length (outputOf c) → refusal s c ≡ 0
+  unfolding refusal
+  zero-refusal b n = row-passes 50 _ b ∙ row-passes 6 [] (le-ltb (length (outputOf c)) (length (sends s c)) n) ∙ no-row
+
+  pub accepted-zero : isAccepted (switchStep s c .answer) ≡ true → refusal s c ≡ 0
+  unfolding isAccepted
+  accepted-zero = step-elim (λ (r : Switched). isAccepted (r .answer) ≡ true → refusal s c ≡ 0) (λ e _. e) (λ _ e. absurd (false≢true e))
+
 -- the port and the packet of a call with no fault
 pub pass-fine : (k : ℕ) (bytes out : List ℕ) → badCall (pass k bytes out) ≡ false → (k < 8) × (badPacket (decoded bytes) ≡ false)
 unfolding badCall
 pass-fine k bytes out b =
     let p = neither (ltb 7 k) (badPacket (decoded bytes)) b in
     (omega (arith, ltb-false 7 k (p .0)), p .1)
+
+pub fine-pass : (k : ℕ) (bytes out : List ℕ) → k < 8 → badPacket (decoded bytes) ≡ false → badCall (pass k bytes out) ≡ false
+unfolding badCall
+fine-pass k bytes out h b = or-intro (ltb 7 k) (badPacket (decoded bytes)) (le-ltb 7 k (omega arith)) b
 
 pub down-fine : (k : ℕ) (out : List ℕ) → badCall (down k out) ≡ false → k < 8
 unfolding badCall
