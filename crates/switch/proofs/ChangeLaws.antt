@@ -1,4 +1,5 @@
--- The packets that changes of the upstream wires send. Assumes nothing.
+-- The packets that changes of the upstream wires send, of one pin and of all four.
+-- Assumes nothing.
 use mathlib.Core.Path.{_≡_, refl, sym, ap₂}
 use mathlib.Core.Bool.{Bool, true, false, cond, not, _&&_, Bool·beq, false≢true}
 use mathlib.Core.List.{List, [], _∷_, _++_, append-nil}

@@ -1,4 +1,5 @@
--- What some bytes sent say of an upstream pin: packets one after another, and the changes of the upstream wires. Assumes nothing.
+-- What bytes that were sent say of an upstream pin: packets one after another, the changes of the upstream wires, a message write in front of them.
+-- Assumes nothing.
 use mathlib.Core.Path.{_≡_, refl, sym, ap, _∙_}
 use mathlib.Core.Bool.{Bool, true, false, cond, not, _&&_, Bool·beq, and-false}
 use mathlib.Core.List.{List, [], _∷_, _++_}

@@ -25,6 +25,7 @@ use Rattle.switch.proofs.SwitchLaws.{shaped-level, shaped-down}
 -- ---- the call
 
 module _ (s : Switch) (c : SwitchCall) where
+  -- with number 0 it is accepted, and with any other refused
   pub step-accepted : refusal s c ≡ 0 → switchStep s c ≡ accepted (nextSwitch s c) (sends s c) (outputOf c)
   unfolding switchStep
   step-accepted e = rw (eq-eqb (refusal s c) 0 e)
@@ -52,6 +53,7 @@ module _ (s : Switch) (c : SwitchCall) where
   unfolding refusal
   zero-refusal b n = row-passes 50 _ b ∙ row-passes 6 [] (le-ltb (length (outputOf c)) (length (sends s c)) n) ∙ no-row
 
+  -- an accepted call has number 0
   pub accepted-zero : isAccepted (switchStep s c .answer) ≡ true → refusal s c ≡ 0
   unfolding isAccepted
   accepted-zero = step-elim (λ (r : Switched). isAccepted (r .answer) ≡ true → refusal s c ≡ 0) (λ e _. e) (λ _ e. absurd (false≢true e))
@@ -79,6 +81,7 @@ entry-accepted s c e =
     ap (entryOf c) (step-accepted s c e)
     ∙ ap (λ (l : List ℕ). record { call = c; answer = Done; bytes = l }) (take-at (sends s c) (drop (length (sends s c)) (outputOf c)) (length (sends s c)) refl)
 
+-- a refused call sends nothing
 pub entry-refused : (s : Switch) (c : SwitchCall) → eqb (refusal s c) 0 ≡ false
     → entryOf c (switchStep s c) ≡ record { call = c; answer = Refused (refusal s c); bytes = [] }
 entry-refused s c e = ap (entryOf c) (step-refused s c e)
