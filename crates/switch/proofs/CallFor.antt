@@ -1,14 +1,14 @@
 -- The ways out of a call's parts, one law for each. Assumes nothing.
 use mathlib.Core.Path.{_≡_, refl, sym, ap, _∙_}
 use mathlib.Core.Bool.{Bool, true, false}
-use mathlib.Core.List.{List, [], _++_, append-nil}
+use mathlib.Core.List.{List}
 use Prim.Native.Nat.{ℕ, _%_, _≤_, _<_}
 use lib.Dec.{ltb, eqb}
 use lib.ListN.{length}
 use borrow.Author.Tests.{eq-eqb, ne-eqb, lt-ltb, le-ltb}
 use Rattle.words.specs.Lists.{join, count, firstOf}
 use Rattle.words.specs.Writers.{Wrote}
-use Rattle.words.proofs.BoolLaws.{by-test, beq-refl}
+use Rattle.words.proofs.BoolLaws.{by-test}
 use Rattle.tlp.specs.declared.decode.Message as Fields
 use Rattle.tlp.specs.declared.decode.Level.{Level}
 use Rattle.tlp.specs.declared.decode.Packet.the-variants.{Message, Wire, Other}
@@ -16,9 +16,10 @@ use Rattle.tlp.specs.Decoded.{decoded}
 use Rattle.switch.specs.declared.Switch.{Switch}
 use Rattle.switch.specs.declared.outcome.Outcome.{Outcome}
 use Rattle.switch.specs.Switches.{wireOf, withLevel, withoutPort, upstream}
-use Rattle.switch.specs.Calls.{SwitchCall, pass, down, Switched, deviceOf, badPacket, badCall, taking, nextSwitch, changeOf, changes, forwarded, forwardedBy, sends, outputOf, refusal, switchStep}
+use Rattle.switch.specs.Calls.{SwitchCall, pass, down, Switched, refused, deviceOf, badPacket, badCall, nextSwitch, changeOf, changes, forwardedBy, sends, outputOf, refusal, switchStep}
 use Rattle.switch.specs.Joined.{upstreamOf}
 use Rattle.switch.specs.Outcomes.{refusedWith, acceptedWith, after, ifRoom, changedTo, messagePassed, wireTaken}
+use Rattle.switch.proofs.StepLaws.{message-next, message-sends, wire-next, wire-sends}
 
 -- ---- room
 
@@ -62,11 +63,6 @@ pub joined-changes : (requester : ℕ) (s next : Switch) (b a : List Bool) → b
 unfolding changes changeOf join count upstreamOf
 joined-changes requester s next b a e f = rw (e, f)
 
--- no wire changes
-none-changed : (requester : ℕ) (f : ℕ → Bool) → changes requester f f ≡ []
-unfolding changes changeOf join count
-none-changed requester f = rw (beq-refl (f 1), beq-refl (f 2), beq-refl (f 3), beq-refl (f 4))
-
 -- ---- a call
 
 -- 50 refuses
@@ -79,25 +75,7 @@ call-good : (s : Switch) (c : SwitchCall) → badCall c ≡ false → ifRoom s (
 unfolding switchStep refusal firstOf ifRoom
 call-good s c h = by-test (ltb (length (outputOf c)) (length (sends s c))) (λ e. rw (h, e)) (λ e. rw (h, e))
 
--- ---- what a packet does and whether 50 refuses it
-
-module _ (s : Switch) (k : ℕ) (bytes out : List ℕ) where
-  kept-message : (m : Fields.Message) → decoded bytes ≡ Message m → nextSwitch s (pass k bytes out) ≡ s
-  unfolding nextSwitch taking
-  kept-message m d = rw d
-
-  sent-message : (m : Fields.Message) → decoded bytes ≡ Message m → sends s (pass k bytes out) ≡ bytes
-  unfolding sends forwardedBy forwarded nextSwitch taking
-  sent-message m d = rw d (ap (λ (l : List ℕ). bytes ++ l) (none-changed (s .requester) (upstream s)) ∙ append-nil bytes)
-
-  kept-wire : (w : Level) → decoded bytes ≡ Wire w → nextSwitch s (pass k bytes out) ≡ withLevel s k (w .pin) (w .active)
-  unfolding nextSwitch taking
-  kept-wire w d = rw d
-
-  sent-wire : (w : Level) → decoded bytes ≡ Wire w
-      → sends s (pass k bytes out) ≡ changes (s .requester) (upstream s) (upstream (nextSwitch s (pass k bytes out)))
-  unfolding sends forwardedBy forwarded
-  sent-wire w d = rw d
+-- ---- whether 50 refuses a packet
 
 even-good : (m : Fields.Message) → eqb (m .address % 4) 0 ≡ true → badPacket (Message m) ≡ false
 unfolding badPacket
@@ -139,51 +117,27 @@ module _ (s : Switch) (k : ℕ) (out : List ℕ) where
       unfolding badCall
       judged = rw (le-ltb 7 k h)
 
-      -- a message write that passes
-      even-passes : (m : Fields.Message) → decoded bytes ≡ Message m → eqb (m .address % 4) 0 ≡ true → ifRoom s s bytes out ≡ switchStep s (pass k bytes out)
-      even-passes m d q = ap (λ (l : List ℕ). ifRoom s s l out) (sym sent) ∙ ap (λ (t : Switch). ifRoom s t (sends s call) out) (sym kept) ∙ call-good s call good
-        where
-          call : SwitchCall
-          call = pass k bytes out
+      -- a packet that is taken
+      taken : (next : Switch) (sent : List ℕ) → badPacket (decoded bytes) ≡ false → nextSwitch s (pass k bytes out) ≡ next → sends s (pass k bytes out) ≡ sent
+          → ifRoom s next sent out ≡ switchStep s (pass k bytes out)
+      taken next sent g n e = (λ i. ifRoom s (sym n i) (sym e i) out) ∙ call-good s (pass k bytes out) (judged ∙ g)
 
-          kept : nextSwitch s call ≡ s
-          kept = kept-message s k bytes out m d
-
-          sent : sends s call ≡ bytes
-          sent = sent-message s k bytes out m d
-
-          good : badCall call ≡ false
-          good = judged ∙ ap badPacket d ∙ even-good m q
+      bad : badPacket (decoded bytes) ≡ true → refused s 50 out ≡ switchStep s (pass k bytes out)
+      bad b = call-bad s (pass k bytes out) (refusedWith s 50) (judged ∙ b) refl
 
       pub pass-message : (x : Switched) (m : Fields.Message) → decoded bytes ≡ Message m → x ≡ messagePassed s (m .address) bytes out
           → x ≡ switchStep s (pass k bytes out)
       unfolding messagePassed
       pass-message x m d e =
           e
-          ∙ by-test (eqb (m .address % 4) 0) (λ q. rw q (even-passes m d q))
-          (λ q. rw q (call-bad s (pass k bytes out) (refusedWith s 50) (judged ∙ ap badPacket d ∙ odd-bad m q) refl))
-
-      -- a wire packet that is taken
-      device-taken : (w : Level) → decoded bytes ≡ Wire w → eqb (deviceOf (w .requester)) 0 ≡ true
-          → changedTo s (withLevel s k (w .pin) (w .active)) out ≡ switchStep s (pass k bytes out)
-      device-taken w d q =
-          ap (λ (t : Switch). changedTo s t out) (sym kept) ∙ ap (λ (l : List ℕ). ifRoom s (nextSwitch s call) l out) (sym sent) ∙ call-good s call good
-        where
-          call : SwitchCall
-          call = pass k bytes out
-
-          kept : nextSwitch s call ≡ withLevel s k (w .pin) (w .active)
-          kept = kept-wire s k bytes out w d
-
-          sent : sends s call ≡ changes (s .requester) (upstream s) (upstream (nextSwitch s call))
-          sent = sent-wire s k bytes out w d
-
-          good : badCall call ≡ false
-          good = judged ∙ ap badPacket d ∙ device-good w q
+          ∙ by-test (eqb (m .address % 4) 0)
+          (λ q. rw q (taken s bytes (ap badPacket d ∙ even-good m q) (message-next s k bytes out m d) (message-sends s k bytes out m d)))
+          (λ q. rw q (bad (ap badPacket d ∙ odd-bad m q)))
 
       pub pass-wire : (x : Switched) (w : Level) → decoded bytes ≡ Wire w → x ≡ wireTaken s k w out → x ≡ switchStep s (pass k bytes out)
       unfolding wireTaken
       pass-wire x w d e =
           e
-          ∙ by-test (eqb (deviceOf (w .requester)) 0) (λ q. rw q (device-taken w d q))
-          (λ q. rw q (call-bad s (pass k bytes out) (refusedWith s 50) (judged ∙ ap badPacket d ∙ device-bad w q) refl))
+          ∙ by-test (eqb (deviceOf (w .requester)) 0)
+          (λ q. rw q (taken _ _ (ap badPacket d ∙ device-good w q) (wire-next s k bytes out w d) (wire-sends s k bytes out w d)))
+          (λ q. rw q (bad (ap badPacket d ∙ device-bad w q)))

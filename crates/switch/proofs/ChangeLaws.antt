@@ -1,88 +1,103 @@
--- The packets of changed upstream wires: one wire, and the four in their order. Assumes nothing.
-use mathlib.Core.Path.{_≡_, refl, sym, ap, _∙_}
-use mathlib.Core.Bool.{Bool, true, false, Bool·beq}
-use mathlib.Core.List.{List, [], _++_, append-nil}
-use Prim.Native.Nat.{ℕ, _+_, _-_, _≤_, _<_}
+-- The packets that changes of the upstream wires send, of one pin and of all four.
+-- Assumes nothing.
+use mathlib.Core.Path.{_≡_, refl, sym, ap₂}
+use mathlib.Core.Bool.{Bool, true, false, cond, not, _&&_, Bool·beq, false≢true}
+use mathlib.Core.List.{List, [], _∷_, _++_, append-nil}
+use Prim.Native.Nat.{ℕ, zero, suc, _+_, _≤_, _<_}
 use native.Mathlib.Omega.{arith}
-use lib.ListN.{length, getD, length-append}
-use Rattle.words.specs.Lists.{join, count}
-use Rattle.words.specs.Writers.{Wrote}
-use Rattle.words.proofs.ListLaws.{count-append, join-append}
+use lib.Dec.{eqb}
+use lib.ListN.{length}
+use borrow.Author.Tests.{eqb-true, eqb-false}
+use Rattle.words.specs.Lists.{count, join}
+use Rattle.words.proofs.BoolLaws.{by-test, beq-refl, cond-elim}
+use Rattle.words.proofs.ListLaws.{Holds, holds-head, holds-tail, member-count, join-length, length-count}
 use Rattle.model.specs.Packets.{wireMessage}
 use Rattle.model.proofs.Vectors.PacketLaws.{wire-length}
-use Rattle.switch.specs.Switches.{wireOf}
 use Rattle.switch.specs.Calls.{ownRequester, changeOf, changes}
 
--- ---- one wire
+-- ---- join
 
-module _ (requester pin : ℕ) (b a : Bool) where
-  -- the level stays
-  pub change-none : Bool·beq b a ≡ true → changeOf requester (λ q. b) (λ q. a) pin ≡ []
+join-members : (f g : ℕ → List ℕ) (l : List ℕ) → Holds (λ x. f x ≡ g x) l → join f l ≡ join g l
+unfolding join
+join-members f g [] h = refl
+join-members f g (x ∷ l) h = ap₂ _++_ (holds-head (λ x. f x ≡ g x) x l h) (join-members f g l (holds-tail (λ x. f x ≡ g x) x l h))
+
+join-empty : (f : ℕ → List ℕ) (l : List ℕ) → Holds (λ x. f x ≡ []) l → join f l ≡ []
+unfolding join
+join-empty f [] h = refl
+join-empty f (x ∷ l) h = rw (holds-head (λ x. f x ≡ []) x l h) (join-empty f l (holds-tail (λ x. f x ≡ []) x l h))
+
+-- of some numbers one at most gives something
+join-one : (f : ℕ → List ℕ) (v i n : ℕ) → ((x : ℕ) → (x ≡ v → ⊥) → f x ≡ []) → i ≤ v → v < i + n → join f (count i n) ≡ f v
+unfolding join count
+join-one f v i zero h a b = absurd (omega arith)
+join-one f v i (suc n) h a b =
+    by-test (eqb v i)
+    (λ e.
+    let q : v ≡ i = eqb-true v i e in
+    let r : join f (count (suc i) n) ≡ [] =
+    join-empty f (count (suc i) n) (λ x m. let p = member-count (suc i) n x m in h x (λ z. absurd (omega arith))) in
+    rw (r, q, append-nil))
+    (λ e.
+    let q : v ≡ i → ⊥ = eqb-false v i e in
+    rw (h i (λ p. q (sym p))) (join-one f v (suc i) n h (omega (arith, q)) (omega arith)))
+
+-- ---- one pin
+
+module _ (requester : ℕ) (before after : ℕ → Bool) (x : ℕ) where
+  -- a pin at the level that it had sends nothing
+  pub no-change : Bool·beq (before x) (after x) ≡ true → changeOf requester before after x ≡ []
   unfolding changeOf
-  change-none e = rw e
+  no-change e = rw e
 
-  -- the level changes
-  pub change-sent : Bool·beq b a ≡ false → changeOf requester (λ q. b) (λ q. a) pin ≡ wireMessage (ownRequester requester) pin a
+  -- and else a packet with its new level
+  pub change-packet : Bool·beq (before x) (after x) ≡ false → changeOf requester before after x ≡ wireMessage (ownRequester requester) x (after x)
   unfolding changeOf
-  change-sent e = rw e
+  change-packet e = rw e
 
-  pub change-length : Bool·beq b a ≡ false → 16 ≡ length (changeOf requester (λ q. b) (λ q. a) pin)
-  change-length e = sym (ap length (change-sent e) ∙ wire-length (ownRequester requester) pin a)
-
-  pub none-written : Bool·beq b a ≡ true → (out : List ℕ) → Wrote (changeOf requester (λ q. b) (λ q. a) pin) out 0 out
-  none-written e out = rw (change-none e) (record { count = refl; bytes = refl })
-
--- ---- four wires before and after, at places 0 to 3
-
-module _ (requester : ℕ) (b a : List Bool) where
-  -- the packet of the wire at place i
-  abbrev pub packetAt : ℕ → List ℕ
-  packetAt i = changeOf requester (λ q. getD b i false) (λ q. getD a i false) (i + 1)
-
-  -- the packets of the first n wires
-  abbrev pub packetsTo : ℕ → List ℕ
-  packetsTo n = join (changeOf requester (wireOf b) (wireOf a)) (count 1 n)
-
-  at-place : (n : ℕ) → changeOf requester (wireOf b) (wireOf a) (1 + n) ≡ packetAt n
+  pub change-length : length (changeOf requester before after x) ≤ 16
   unfolding changeOf
-  at-place n =
-      let place : 1 + n - 1 ≡ n = omega arith in
-      let pin : 1 + n ≡ n + 1 = omega arith in
-      rw (place, pin)
+  change-length =
+      cond-elim (λ (l : List ℕ). length l ≤ 16) (Bool·beq (before x) (after x)) (λ _. omega arith)
+      (λ _. omega (arith, wire-length (ownRequester requester) x (after x)))
 
-  pub next-packet : (n : ℕ) → packetsTo (n + 1) ≡ packetsTo n ++ packetAt n
-  unfolding join count
-  next-packet n =
-      let f = changeOf requester (wireOf b) (wireOf a) in
-      ap (join f) (count-append 1 n 1) ∙ join-append f (count 1 n) (count (1 + n) 1)
-      ∙ ap (λ (l : List ℕ). packetsTo n ++ l) (append-nil (f (1 + n)) ∙ at-place n)
+-- ---- every upstream pin
 
-  next-length : (n : ℕ) → length (packetsTo (n + 1)) ≡ length (packetsTo n) + length (packetAt n)
-  next-length n = ap length (next-packet n) ∙ length-append (packetsTo n) (packetAt n)
+-- levels that agree at the upstream pins change alike
+pub changes-agree : (requester : ℕ) (before after before′ after′ : ℕ → Bool) → ((q : ℕ) → 1 ≤ q → q ≤ 4 → (before q ≡ before′ q) × (after q ≡ after′ q))
+    → changes requester before after ≡ changes requester before′ after′
+unfolding changes changeOf
+changes-agree requester before after before′ after′ h =
+    join-members (changeOf requester before after) (changeOf requester before′ after′) (count 1 4)
+    (λ q m. let p = member-count 1 4 q m in let e = h q (p .0) (omega (arith, p .1)) in rw (e .0, e .1))
 
-  pub all-packets : packetsTo 4 ≡ changes requester (wireOf b) (wireOf a)
-  unfolding changes
-  all-packets = refl
+-- a switch that stays sends no change
+pub no-changes : (requester : ℕ) (f : ℕ → Bool) → changes requester f f ≡ []
+unfolding changes
+no-changes requester f = join-empty (changeOf requester f f) (count 1 4) (λ x _. no-change requester f f x (beq-refl (f x)))
 
-  pub all-lengths : length (packetAt 0) + length (packetAt 1) + length (packetAt 2) + length (packetAt 3) ≡ length (changes requester (wireOf b) (wireOf a))
-  unfolding join count
-  all-lengths =
-      let whole = ap length all-packets in
-      omega (arith, whole, next-length 0, next-length 1, next-length 2, next-length 3)
+pub changes-length : (requester : ℕ) (before after : ℕ → Bool) → length (changes requester before after) ≤ 64
+unfolding changes
+changes-length requester before after =
+    let n : length (count 1 4) ≡ 4 = length-count 1 4 in
+    omega (arith, join-length (changeOf requester before after) 16 (count 1 4) (change-length requester before after))
 
-  -- the packet at a place fits where all do
-  pub packet-fits : (n : ℕ) → n < 4 → length (packetsTo n) + length (packetAt n) ≤ length (changes requester (wireOf b) (wireOf a))
-  unfolding join count
-  packet-fits n h =
-      let f = changeOf requester (wireOf b) (wireOf a) in
-      let rest : 4 ≡ n + 1 + (3 - n) = omega (arith, h) in
-      let whole : length (changes requester (wireOf b) (wireOf a)) ≡ length (packetsTo (n + 1)) + length (join f (count (1 + (n + 1)) (3 - n))) =
-      ap length (sym all-packets ∙ ap packetsTo rest ∙ ap (join f) (count-append 1 (n + 1) (3 - n)) ∙ join-append f (count 1 (n + 1)) (count (1 + (n + 1)) (3 - n)))
-      ∙ length-append (packetsTo (n + 1)) (join f (count (1 + (n + 1)) (3 - n))) in
-      omega (arith, whole, next-length n)
+-- changes of one upstream pin at most
+pub changes-one : (requester : ℕ) (before after : ℕ → Bool) (v : ℕ) → 1 ≤ v → v ≤ 4 → ((q : ℕ) → (q ≡ v → ⊥) → after q ≡ before q)
+    → changes requester before after ≡ changeOf requester before after v
+unfolding changes
+changes-one requester before after v first last h =
+    join-one (changeOf requester before after) v 1 4 (λ x n. no-change requester before after x (rw (h x n) (beq-refl (before x)))) first (omega arith)
 
-  -- the packets of the first n wires stand in the output
-  pub record Sending (out₀ out : List ℕ) (at n : ℕ) : Type 0 where
-    pub most : n ≤ 4
-    pub same : length out ≡ length out₀
-    pub wrote : Wrote (packetsTo n) out₀ at out
+-- a wire that is active after only if it was before: a Deassert, if it is no more
+pub change-deasserts : (requester : ℕ) (before after : ℕ → Bool) (q : ℕ) → (after q ≡ true → before q ≡ true)
+    → changeOf requester before after q ≡ cond (before q && not (after q)) (wireMessage (ownRequester requester) q false) []
+unfolding changeOf
+change-deasserts requester before after q = go (before q) (after q)
+  where
+    go : (a b : Bool) → (b ≡ true → a ≡ true)
+        → cond (Bool·beq a b) [] (wireMessage (ownRequester requester) q b) ≡ cond (a && not b) (wireMessage (ownRequester requester) q false) []
+    go true true f = refl
+    go true false f = refl
+    go false true f = absurd (false≢true (f refl))
+    go false false f = refl

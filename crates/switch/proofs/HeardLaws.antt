@@ -1,5 +1,6 @@
--- What some bytes sent say of an upstream pin: packets one after another, and the changes of the upstream wires. Assumes nothing.
-use mathlib.Core.Path.{_≡_, refl, sym, ap, ap₂, _∙_}
+-- What bytes that were sent say of an upstream pin: packets one after another, the changes of the upstream wires, a message write in front of them.
+-- Assumes nothing.
+use mathlib.Core.Path.{_≡_, refl, sym, ap, _∙_}
 use mathlib.Core.Bool.{Bool, true, false, cond, not, _&&_, Bool·beq, and-false}
 use mathlib.Core.List.{List, [], _∷_, _++_}
 use Prim.Native.Nat.{ℕ, zero, suc, _+_, _≤_, _<_}
@@ -19,6 +20,7 @@ use Rattle.tlp.specs.Decoded.{decoded, firstLength}
 use Rattle.tlp.proofs.RoundTrip.{wire-decodes, decoded-message, first-wire, first-message}
 use Rattle.switch.specs.Calls.{ownRequester, changeOf, changes, forwarded}
 use Rattle.switch.specs.History.{isFor, isAssert, packetsIn, levelAfter}
+use Rattle.switch.proofs.ChangeLaws.{no-change, change-packet}
 
 -- the packets of l, however many are asked for at most, take the level of pin q from b to f b
 abbrev pub Says : (q : ℕ) → List ℕ → (f : Bool → Bool) → Type 0
@@ -43,17 +45,6 @@ module _ (p rest : List ℕ) (x : Packet) (some : 1 ≤ length p) (whole : first
   says-packet q f says (suc n) h b = rw (packets-first n) (says n (omega (arith, length-append p rest)) _)
 
 -- ---- the changes of the upstream wires
-
-module _ (requester : ℕ) (before after : ℕ → Bool) (x : ℕ) where
-  -- a pin at the level that it had sends nothing
-  pub no-change : Bool·beq (before x) (after x) ≡ true → changeOf requester before after x ≡ []
-  unfolding changeOf
-  no-change e = rw e
-
-  -- and else a packet with its new level
-  pub change-packet : Bool·beq (before x) (after x) ≡ false → changeOf requester before after x ≡ wireMessage (ownRequester requester) x (after x)
-  unfolding changeOf
-  change-packet e = rw e
 
 abbrev isPin : ℕ → Type 0
 isPin x = (1 ≤ x) × (x < 1 + 4)
@@ -143,18 +134,3 @@ says-forwarded q bytes rest f says = go (decoded bytes) refl
         says-packet bytes rest (Message m) (omega (arith, size, size-some (m .upper))) (whole ∙ sym size) e q f says
     go (Wire w) e = says
     go Other e = says
-
--- ---- the same changes
-
-join-members : (f g : ℕ → List ℕ) (l : List ℕ) → Holds (λ x. f x ≡ g x) l → join f l ≡ join g l
-unfolding join
-join-members f g [] h = refl
-join-members f g (x ∷ l) h = ap₂ _++_ (holds-head (λ x. f x ≡ g x) x l h) (join-members f g l (holds-tail (λ x. f x ≡ g x) x l h))
-
--- levels that agree at the upstream pins change alike
-pub changes-agree : (requester : ℕ) (before after before′ after′ : ℕ → Bool) → ((q : ℕ) → 1 ≤ q → q ≤ 4 → (before q ≡ before′ q) × (after q ≡ after′ q))
-    → changes requester before after ≡ changes requester before′ after′
-unfolding changes changeOf
-changes-agree requester before after before′ after′ h =
-    join-members (changeOf requester before after) (changeOf requester before′ after′) (count 1 4)
-    (λ q m. let p = member-count 1 4 q m in let e = h q (p .0) (omega (arith, p .1)) in rw (e .0, e .1))

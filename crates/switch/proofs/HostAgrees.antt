@@ -19,9 +19,10 @@ use Rattle.switch.specs.declared.Switch.{Switch}
 use Rattle.switch.specs.Switches.{fresh, upstream}
 use Rattle.switch.specs.Calls.{SwitchCall, pass, down, Switched, nextSwitch, changes, forwardedBy, sends, refusal, switchStep}
 use Rattle.switch.specs.History.{SwitchEntry, entryOf, SwitchPast, SwitchRun, switchCalled, switchRun, heard, DrivenBy}
-use Rattle.switch.proofs.SwitchLaws.{upstream-iff, upstream-fresh}
+use Rattle.switch.proofs.SwitchLaws.{upstream-active, upstream-elim, upstream-fresh}
 use Rattle.switch.proofs.StepLaws.{step-accepted, step-refused, entry-accepted, entry-refused, requester-kept}
-use Rattle.switch.proofs.HeardLaws.{Says, says-nothing, says-changes, says-forwarded, changes-agree}
+use Rattle.switch.proofs.ChangeLaws.{changes-agree}
+use Rattle.switch.proofs.HeardLaws.{Says, says-nothing, says-changes, says-forwarded}
 use Rattle.switch.proofs.PortWire.{port-wire}
 
 -- ---- one call
@@ -118,24 +119,10 @@ pub upstream-history : (requester : ℕ) (calls : List SwitchCall) (q : ℕ) →
 upstream-history requester calls q first last =
     let r = switchRun (fresh requester) calls in
     let same = host-agrees requester calls q first last in (
-      λ e. let d = upstream-iff (r .switch) q .0 (sym same ∙ e) in record {
-        port = d .port;
-        pin = d .pin;
-        isPort = d .isPort;
-        first = d .first;
-        last = d .last;
-        mapped = d .mapped;
-        active = port-wire requester calls (d .port) (d .pin) (d .isPort) (d .first) (d .last) .0 (d .active);
-      },
-      λ d. same ∙ upstream-iff (r .switch) q .1 (record {
-        port = d .port;
-        pin = d .pin;
-        isPort = d .isPort;
-        first = d .first;
-        last = d .last;
-        mapped = d .mapped;
-        active = port-wire requester calls (d .port) (d .pin) (d .isPort) (d .first) (d .last) .1 (d .active);
-      }),
+      λ e. upstream-elim (r .switch) q
+          (λ k p a b c m on. record { port = k; pin = p; isPort = a; first = b; last = c; mapped = m; active = port-wire requester calls k p a b c .0 on }) (sym same ∙ e),
+      λ d. let on = port-wire requester calls (d .port) (d .pin) (d .isPort) (d .first) (d .last) .1 (d .active) in
+          same ∙ upstream-active (r .switch) q (d .port) (d .pin) (d .isPort) (d .first) (d .last) (d .mapped) on,
     )
 
 -- "Each change of that, and nothing else, sends a wire packet, with the switch's requester ID, function part 0": each call from a fresh switch on,

@@ -1,9 +1,11 @@
 pub mod PortWire
 pub mod HostAgrees
 pub mod Refusals
+pub mod Sends
 pub mod SwitchLaws
 pub mod StepLaws
+pub mod ChangeLaws
 pub mod HeardLaws
 pub mod JoinLaws
-pub mod ChangeLaws
+pub mod WriteLaws
 pub mod CallFor

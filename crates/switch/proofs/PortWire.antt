@@ -1,4 +1,5 @@
--- Document 02, request [4], last sentence: a port's wire over every list of calls. Assumes nothing.
+-- Document 02, request [4], last sentence: a port's wire over every list of calls. A packet for the wire gives it its level, its port going down
+-- drops it, and nothing else changes it. Assumes nothing.
 use mathlib.Core.Path.{_≡_, refl, _∙_}
 use mathlib.Core.Bool.{Bool, true, false, cond, _&&_, _||_, and-false}
 use mathlib.Core.List.{List, []}

@@ -1,4 +1,5 @@
--- Document 02, request [4]: which calls of a switch are refused, with which number, and that a refused one changes nothing. Assumes nothing.
+-- Document 02, request [4]: which calls of a switch are refused, with which number, and that a refused one changes nothing.
+-- Assumes nothing.
 use mathlib.Core.Path.{_≡_, refl, sym, _∙_, subst}
 use mathlib.Core.Bool.{Bool, true, false, _||_, true≢false, false≢true}
 use mathlib.Core.List.{List, [], _∷_}

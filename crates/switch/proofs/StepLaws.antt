@@ -1,29 +1,35 @@
--- Every call of a switch is accepted or refused, by its refusal number, and what an entry of the past then says.
+-- Every call of a switch is accepted or refused, by its refusal number; what a packet does, and what an entry of the past then says.
 -- Assumes nothing.
 use mathlib.Core.Path.{_≡_, refl, ap, _∙_}
-use mathlib.Core.Bool.{false}
-use mathlib.Core.List.{List, []}
+use mathlib.Core.Bool.{true, false, false≢true}
+use mathlib.Core.List.{List, [], append-nil}
 use Prim.Native.Nat.{ℕ, _≤_, _<_}
 use native.Mathlib.Omega.{arith}
 use lib.Dec.{ltb, eqb}
 use lib.ListN.{length, drop}
 use lib.Seq.{take-at}
-use borrow.Author.Tests.{eq-eqb, eqb-true, ltb-false}
-use Rattle.words.proofs.BoolLaws.{cond-elim, neither, passed}
+use borrow.Author.Tests.{eq-eqb, eqb-true, le-ltb, ltb-false}
+use Rattle.words.proofs.BoolLaws.{cond-elim, neither, or-intro, passed, row-passes, no-row}
 use Rattle.model.specs.declared.Answer.the-variants.{Refused, Done}
+use Rattle.model.specs.Answers.{isAccepted}
+use Rattle.tlp.specs.declared.decode.Message as Fields
+use Rattle.tlp.specs.declared.decode.Level.{Level}
 use Rattle.tlp.specs.declared.decode.Packet.{Packet}
 use Rattle.tlp.specs.declared.decode.Packet.the-variants.{Message, Wire, Other}
 use Rattle.tlp.specs.Decoded.{decoded}
 use Rattle.switch.specs.declared.Switch.{Switch}
-use Rattle.switch.specs.Switches.{withLevel, withoutPort}
-use Rattle.switch.specs.Calls.{SwitchCall, pass, down, Switched, refused, accepted, badPacket, badCall, taking, nextSwitch, sends, outputOf, refusal, switchStep}
+use Rattle.switch.specs.Switches.{withLevel, withoutPort, upstream}
+use Rattle.switch.specs.Calls.{SwitchCall, pass, down, Switched, refused, accepted, badPacket, badCall, taking, nextSwitch}
+use Rattle.switch.specs.Calls.{changes, forwarded, forwardedBy, sends, outputOf, refusal, switchStep}
 use Rattle.switch.specs.History.{entryOf}
 use Rattle.switch.specs.Claims.{Shaped}
 use Rattle.switch.proofs.SwitchLaws.{shaped-level, shaped-down}
+use Rattle.switch.proofs.ChangeLaws.{no-changes}
 
 -- ---- the call
 
 module _ (s : Switch) (c : SwitchCall) where
+  -- with number 0 it is accepted, and with any other refused
   pub step-accepted : refusal s c ≡ 0 → switchStep s c ≡ accepted (nextSwitch s c) (sends s c) (outputOf c)
   unfolding switchStep
   step-accepted e = rw (eq-eqb (refusal s c) 0 e)
@@ -46,6 +52,16 @@ module _ (s : Switch) (c : SwitchCall) where
       let second = passed 6 _ refl (first .1) in
       (first .0, ltb-false (length (outputOf c)) (length (sends s c)) (second .0))
 
+  -- and the other way round
+  pub zero-refusal : badCall c ≡ false → length (sends s c) ≤ length (outputOf c) → refusal s c ≡ 0
+  unfolding refusal
+  zero-refusal b n = row-passes 50 _ b ∙ row-passes 6 [] (le-ltb (length (outputOf c)) (length (sends s c)) n) ∙ no-row
+
+  -- an accepted call has number 0
+  pub accepted-zero : isAccepted (switchStep s c .answer) ≡ true → refusal s c ≡ 0
+  unfolding isAccepted
+  accepted-zero = step-elim (λ (r : Switched). isAccepted (r .answer) ≡ true → refusal s c ≡ 0) (λ e _. e) (λ _ e. absurd (false≢true e))
+
 -- the port and the packet of a call with no fault
 pub pass-fine : (k : ℕ) (bytes out : List ℕ) → badCall (pass k bytes out) ≡ false → (k < 8) × (badPacket (decoded bytes) ≡ false)
 unfolding badCall
@@ -53,9 +69,36 @@ pass-fine k bytes out b =
     let p = neither (ltb 7 k) (badPacket (decoded bytes)) b in
     (omega (arith, ltb-false 7 k (p .0)), p .1)
 
+pub fine-pass : (k : ℕ) (bytes out : List ℕ) → k < 8 → badPacket (decoded bytes) ≡ false → badCall (pass k bytes out) ≡ false
+unfolding badCall
+fine-pass k bytes out h b = or-intro (ltb 7 k) (badPacket (decoded bytes)) (le-ltb 7 k (omega arith)) b
+
 pub down-fine : (k : ℕ) (out : List ℕ) → badCall (down k out) ≡ false → k < 8
 unfolding badCall
 down-fine k out b = omega (arith, ltb-false 7 k b)
+
+-- ---- what a packet does
+
+module _ (s : Switch) (k : ℕ) (bytes out : List ℕ) where
+  pub message-next : (m : Fields.Message) → decoded bytes ≡ Message m → nextSwitch s (pass k bytes out) ≡ s
+  unfolding nextSwitch taking
+  message-next m e = rw e
+
+  pub message-sends : (m : Fields.Message) → decoded bytes ≡ Message m → sends s (pass k bytes out) ≡ bytes
+  unfolding sends forwardedBy forwarded nextSwitch taking
+  message-sends m e = rw (e, no-changes, append-nil)
+
+  pub wire-next : (w : Level) → decoded bytes ≡ Wire w → nextSwitch s (pass k bytes out) ≡ withLevel s k (w .pin) (w .active)
+  unfolding nextSwitch taking
+  wire-next w e = rw e
+
+  pub wire-sends : (w : Level) → decoded bytes ≡ Wire w → sends s (pass k bytes out) ≡ changes (s .requester) (upstream s) (upstream (withLevel s k (w .pin) (w .active)))
+  unfolding sends forwardedBy forwarded nextSwitch taking
+  wire-sends w e = rw e
+
+  pub other-sends : decoded bytes ≡ Other → sends s (pass k bytes out) ≡ []
+  unfolding sends forwardedBy forwarded nextSwitch taking
+  other-sends e = rw (e, no-changes)
 
 -- ---- the entry
 
@@ -65,6 +108,7 @@ entry-accepted s c e =
     ap (entryOf c) (step-accepted s c e)
     ∙ ap (λ (l : List ℕ). record { call = c; answer = Done; bytes = l }) (take-at (sends s c) (drop (length (sends s c)) (outputOf c)) (length (sends s c)) refl)
 
+-- a refused call sends nothing
 pub entry-refused : (s : Switch) (c : SwitchCall) → eqb (refusal s c) 0 ≡ false
     → entryOf c (switchStep s c) ≡ record { call = c; answer = Refused (refusal s c); bytes = [] }
 entry-refused s c e = ap (entryOf c) (step-refused s c e)

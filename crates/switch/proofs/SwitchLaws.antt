@@ -40,10 +40,12 @@ shaped-set s j wires e h = record {
   wires = λ k. set-elim (λ (p : Port). length (p .wires) ≡ 4) (s .ports) j k (portOf wires) idle e (h .wires k);
 }
 
+-- a fresh switch has this shape
 pub shaped-fresh : (requester : ℕ) → Shaped (fresh requester)
 unfolding fresh
 shaped-fresh requester = record { ports = refl; wires = λ k. ap (λ (p : Port). length (p .wires)) (all-equal 8 k idle) }
 
+-- a wire at another level, and a port without wires, leave it
 pub shaped-level : (s : Switch) (j p : ℕ) (b : Bool) → Shaped s → Shaped (withLevel s j p b)
 unfolding withLevel
 shaped-level s j p b h = shaped-set s j (set (wiresOf s j) (p - 1) b) (length-set (wiresOf s j) (p - 1) b ∙ h .wires j) h
@@ -57,11 +59,12 @@ shaped-down s j h = shaped-set s j (idle .wires) refl h
 idle-wire : (p : ℕ) → wireOf (idle .wires) p ≡ false
 idle-wire p = all-equal 4 (p - 1) false
 
+-- no wire of a fresh switch is active
 pub level-fresh : (requester k p : ℕ) → level (fresh requester) k p ≡ false
 unfolding fresh level
 level-fresh requester k p = ap (λ (x : Port). wireOf (x .wires) p) (all-equal 8 k idle) ∙ idle-wire p
 
--- of a pin among a port's
+-- the wires of a port, one of them at another level
 wire-set : (wires : List Bool) (q p : ℕ) (b : Bool) → length wires ≡ 4 → 1 ≤ q → q ≤ 4 → 1 ≤ p
     → wireOf (set wires (q - 1) b) p ≡ cond (eqb q p) b (wireOf wires p)
 wire-set wires q p b n q1 q4 p1 =
@@ -69,7 +72,7 @@ wire-set wires q p b n q1 q4 p1 =
     (λ e. let ne : q ≡ p → ⊥ = eqb-false q p e in rw e (getD-set-other wires (q - 1) (p - 1) b false (λ x. ne (omega arith))))
 
 module _ (s : Switch) (h : Shaped s) (j : ℕ) (i : j < 8) where
-  -- of a port that is another one now
+  -- port j with other wires
   level-port : (wires : List Bool) (k p : ℕ)
       → level (switchOf (s .requester) (set (s .ports) j (portOf wires))) k p ≡ cond (eqb j k) (wireOf wires p) (level s k p)
   unfolding level
@@ -101,7 +104,10 @@ record Passing (f : ℕ → Bool) (l : List ℕ) : Type 0 where
 some-true : (f : ℕ → Bool) (l : List ℕ) → some f l ≡ true → Passing f l
 unfolding some
 some-true f [] e = absurd (false≢true e)
-some-true f (x ∷ l) e = by-test (f x) (λ p. record { number = x; listed = member-head x l; passes = p }) (λ p. let r = some-true f l (rw p at e) in
+some-true f (x ∷ l) e =
+    by-test (f x) (λ p. record { number = x; listed = member-head x l; passes = p })
+    (λ p.
+    let r = some-true f l (rw p at e) in
     record { number = r .number; listed = member-tail (r .number) x l (r .listed); passes = r .passes })
 
 true-some : (f : ℕ → Bool) (l : List ℕ) (x : ℕ) → member x l ≡ true → f x ≡ true → some f l ≡ true
@@ -150,20 +156,19 @@ upstream-iff s q = (λ e. found (some-true (λ k. drives k (wiresOf s k) q) (cou
         (true-some (test (d .port)) (count 1 4) (d .pin) (count-member 1 4 (d .pin) (d .first) (omega (arith, d .last)))
         (and-intro (eqb (upstreamPin (d .port) (d .pin)) q) (wireOf (wiresOf s (d .port)) (d .pin)) (eq-eqb (upstreamPin (d .port) (d .pin)) q (d .mapped)) (d .active)))
 
+-- the two ways of it, by port and pin
+module _ (s : Switch) (q : ℕ) where
+  pub upstream-active : (k p : ℕ) → k < 8 → 1 ≤ p → p ≤ 4 → upstreamPin k p ≡ q → level s k p ≡ true → upstream s q ≡ true
+  upstream-active k p port first last m e =
+      upstream-iff s q .1 (record { port = k; pin = p; isPort = port; first = first; last = last; mapped = m; active = e })
+
+  pub upstream-elim : {P : Type 0} → ((k p : ℕ) → k < 8 → 1 ≤ p → p ≤ 4 → upstreamPin k p ≡ q → level s k p ≡ true → P) → upstream s q ≡ true → P
+  upstream-elim f e = let d = upstream-iff s q .0 e in f (d .port) (d .pin) (d .isPort) (d .first) (d .last) (d .mapped) (d .active)
+
 -- an upstream wire that is active by one switch is so by another, where each wire that becomes it is
 pub upstream-mono : (s t : Switch) (q : ℕ) → ((k p : ℕ) → k < 8 → 1 ≤ p → p ≤ 4 → upstreamPin k p ≡ q → level s k p ≡ true → level t k p ≡ true)
     → upstream s q ≡ true → upstream t q ≡ true
-upstream-mono s t q f e =
-    let d = upstream-iff s q .0 e in
-    upstream-iff t q .1 (record {
-      port = d .port;
-      pin = d .pin;
-      isPort = d .isPort;
-      first = d .first;
-      last = d .last;
-      mapped = d .mapped;
-      active = f (d .port) (d .pin) (d .isPort) (d .first) (d .last) (d .mapped) (d .active);
-    })
+upstream-mono s t q f = upstream-elim s q (λ k p a b c m e. upstream-active t q k p a b c m (f k p a b c m e))
 
 -- two switches at which each wire that becomes an upstream wire has the same level
 pub upstream-same : (s t : Switch) (q : ℕ) → ((k p : ℕ) → k < 8 → 1 ≤ p → p ≤ 4 → upstreamPin k p ≡ q → level s k p ≡ level t k p)
@@ -176,7 +181,7 @@ upstream-same s t q f =
 pub upstream-fresh : (requester q : ℕ) → upstream (fresh requester) q ≡ false
 upstream-fresh requester q =
     by-test (upstream (fresh requester) q)
-    (λ e. let d = upstream-iff (fresh requester) q .0 e in absurd (false≢true (sym (level-fresh requester (d .port) (d .pin)) ∙ d .active)))
+    (upstream-elim (fresh requester) q (λ k p _ _ _ _ e. absurd (false≢true (sym (level-fresh requester k p) ∙ e))))
     (λ e. e)
 
 -- an upstream pin is 1 to 4

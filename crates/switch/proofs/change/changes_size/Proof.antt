@@ -1,6 +1,6 @@
 use mathlib.Core.Path.{_∙_}
 use Prim.Native.Nat.{_+_}
-use Rattle.switch.proofs.ChangeLaws.{all-lengths}
+use Rattle.switch.proofs.WriteLaws.{all-lengths}
 use borrow.Author.Needs.{needs}
 use Rattle.switch.proofs.change.changes_size.Statement.{statement}
 use Rattle.switch.proofs.change.changes_size.Tie as tie

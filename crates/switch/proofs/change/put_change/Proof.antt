@@ -1,6 +1,6 @@
 use native.Mathlib.Omega.{arith}
 use Rattle.switch.specs.Calls.{ownRequester}
-use Rattle.switch.proofs.ChangeLaws.{none-written, change-sent, change-length}
+use Rattle.switch.proofs.WriteLaws.{one-sent, none-written, one-written}
 use borrow.Author.Needs.{needs}
 use Rattle.switch.proofs.change.put_change.Statement.{statement}
 use Rattle.switch.proofs.change.put_change.Tie as tie
@@ -13,15 +13,14 @@ put-wire-requires c κs =
     let at-if1 = c .before in
     let start = at-if1 .before .before in
     let a = start .args in
-    (start .pre .0, omega (arith, start .pre .1, change-length (a .requester) (a .pin) (a .before) (a .after) (at-if1 .if1 .left)))
+    (start .pre .0, omega (arith, start .pre .1, one-sent (a .requester) (a .pin) (a .before) (a .after) (at-if1 .if1 .left)))
 
 returns-2 : tie.Need-returns-2
 unfolding ownRequester
 returns-2 c =
     let at-put-wire = c .before .before in
     let at-if1 = at-put-wire .before .before in
-    let a = at-if1 .before .before .args in
-    rw (change-sent (a .requester) (a .pin) (a .before) (a .after) (at-if1 .if1 .left)) (at-put-wire .put-wire .ensures)
+    one-written _ _ _ _ (at-if1 .if1 .left) _ _ _ (at-put-wire .put-wire .ensures)
 
 pub put-change-spec : {M : Type 1} → statement M
 put-change-spec =

@@ -6,7 +6,7 @@ use native.Mathlib.Omega.{arith}
 use lib.ListN.{length, length-take, length-drop}
 use Rattle.words.proofs.Writers.{behind}
 use Rattle.words.specs.Lists.{join, count}
-use Rattle.switch.proofs.ChangeLaws.{packetAt, next-packet, packet-fits, all-packets, Sending}
+use Rattle.switch.proofs.WriteLaws.{packetAt, next-packet, packet-fits, all-packets, Sending}
 use borrow.Author.Needs.{needs}
 use Rattle.switch.proofs.change.put_changes.Statement.{statement}
 use Rattle.switch.proofs.change.put_changes.Tie as tie
