@@ -1,11 +1,11 @@
 -- From the code's parts to what crosses, one law for each way out. Assumes nothing.
 use mathlib.Core.Path.{_≡_, refl, sym, ap, _∙_}
-use mathlib.Core.Bool.{Bool, true, false, _&&_}
-use mathlib.Core.List.{List, [], _∷_, _++_, append-nil}
+use mathlib.Core.Bool.{Bool, true, false, not, _&&_, true≢false, false≢true}
+use mathlib.Core.List.{List, [], _++_, append-nil}
 use Prim.Native.Nat.{ℕ, _+_, _≤_, _<_}
 use native.Mathlib.Omega.{arith}
 use lib.Dec.{ltb, eqb}
-use lib.ListN.{length, drop, drop-of-length-le}
+use lib.ListN.{length, drop-of-length-le}
 use borrow.Author.Tests.{eq-eqb, ne-eqb, eqb-true, lt-ltb, le-ltb}
 use Rattle.words.specs.Lists.{count, all}
 use Rattle.words.specs.Bytes.{byte, bytesOf}
@@ -15,7 +15,7 @@ use Rattle.model.specs.Answers.{refusalOf}
 use Rattle.switch.specs.declared.Switch.{Switch}
 use Rattle.switch.specs.declared.outcome.Outcome.{Outcome}
 use Rattle.switch.specs.Switches.{fresh}
-use Rattle.switch.specs.Calls.{SwitchCall, outputOf, Switched, switchStep}
+use Rattle.switch.specs.Calls.{SwitchCall, outputOf, switchStep}
 use Rattle.switch.specs.Outcomes.{after}
 use Rattle.capi_switch.specs.Crossing.{switchBytes, switchIn, portsClean, isSwitch, handed, back, crossed, started}
 
@@ -51,6 +51,11 @@ pub ten-bytes : (l : List ℕ) (r : Bool) → length l ≡ 10 → r ≡ portsCle
 unfolding isSwitch
 ten-bytes l r h e = rw (eq-eqb (length l) 10 h) e
 
+-- the test passed
+pub found : (l : List ℕ) (r : Bool) → r ≡ isSwitch l → not r ≡ false → isSwitch l ≡ true
+found l true e h = sym e
+found l false e h = absurd (true≢false h)
+
 pub switch-length : (l : List ℕ) → isSwitch l ≡ true → length l ≡ 10
 unfolding isSwitch
 switch-length l e = eqb-true (length l) 10 (both (eqb (length l) 10) (portsClean l) e .0)
@@ -64,14 +69,15 @@ switch-ten s = refl
 pub written-over : (l new l′ : List ℕ) (n : ℕ) (s : Switch) → length l ≡ 10 → new ≡ switchBytes s → Wrote new l n l′ → l′ ≡ switchBytes s
 written-over l new l′ n s h e w =
     let size : length new ≡ 10 = ap length e ∙ switch-ten s in
-    w .bytes ∙ ap (λ (t : List ℕ). new ++ t) (drop-of-length-le l (omega (arith, h, size))) ∙ append-nil new ∙ e
+    w .bytes ∙ ap (λ (t : List ℕ). new ++ t) (drop-of-length-le l {i = length new} (omega (arith, h, size))) ∙ append-nil new ∙ e
 
 -- ---- a call
 
 -- the bytes are no switch's
-pub no-switch : (l : List ℕ) (c : SwitchCall) → isSwitch l ≡ false → handed 60 l (outputOf c) 0 ≡ crossed l c
+pub no-switch : (l : List ℕ) (c : SwitchCall) (r : Bool) → r ≡ isSwitch l → not r ≡ true → handed 60 l (outputOf c) 0 ≡ crossed l c
 unfolding crossed
-no-switch l c e = rw e
+no-switch l c true e h = absurd (false≢true h)
+no-switch l c false e h = rw (← e)
 
 -- or the call on the switch that they hold gave the outcome r
 pub through : (l : List ℕ) (c : SwitchCall) (held : Switch) (r : Outcome) (l′ out′ : List ℕ) (n : ℕ) → isSwitch l ≡ true → held ≡ switchIn l

@@ -7,84 +7,7 @@ use Rattle.capi_switch.specs.Crossing.{portByte, switchBytes}
 use borrow.Author.Needs.{needs}
 use Rattle.capi_switch.proofs.bytes.bytes_of.Statement.{statement}
 use Rattle.capi_switch.proofs.bytes.bytes_of.Tie as tie
-use Rattle.capi_switch.proofs.bytes.bytes_of.Reads as reads
-use Rattle.capi_switch.proofs.bytes.bytes_of.Lts as lts
-use Rattle.capi_switch.proofs.bytes.port_byte.Reads as port-byte-reads
-use Rattle.switch.proofs.keep.wires.Reads as wires-reads
 
--- src/bytes.rt:84:9
-cast-t4 : tie.Need-cast-t4
-cast-t4 c = search needs
-
--- src/bytes.rt:85:9
-cast-t7 : tie.Need-cast-t7
-cast-t7 c = search needs
-
--- src/bytes.rt:86:19
-wires-requires : tie.Need-wires-requires
-wires-requires c κs = search needs
-
--- src/bytes.rt:86:9
-port-byte-requires : tie.Need-port-byte-requires
-port-byte-requires c κs = search needs
-
--- src/bytes.rt:87:19
-wires-requires-2 : tie.Need-wires-requires-2
-wires-requires-2 c κs = search needs
-
--- src/bytes.rt:87:9
-port-byte-requires-2 : tie.Need-port-byte-requires-2
-port-byte-requires-2 c κs = search needs
-
--- src/bytes.rt:88:19
-wires-requires-3 : tie.Need-wires-requires-3
-wires-requires-3 c κs = search needs
-
--- src/bytes.rt:88:9
-port-byte-requires-3 : tie.Need-port-byte-requires-3
-port-byte-requires-3 c κs = search needs
-
--- src/bytes.rt:89:19
-wires-requires-4 : tie.Need-wires-requires-4
-wires-requires-4 c κs = search needs
-
--- src/bytes.rt:89:9
-port-byte-requires-4 : tie.Need-port-byte-requires-4
-port-byte-requires-4 c κs = search needs
-
--- src/bytes.rt:90:19
-wires-requires-5 : tie.Need-wires-requires-5
-wires-requires-5 c κs = search needs
-
--- src/bytes.rt:90:9
-port-byte-requires-5 : tie.Need-port-byte-requires-5
-port-byte-requires-5 c κs = search needs
-
--- src/bytes.rt:91:19
-wires-requires-6 : tie.Need-wires-requires-6
-wires-requires-6 c κs = search needs
-
--- src/bytes.rt:91:9
-port-byte-requires-6 : tie.Need-port-byte-requires-6
-port-byte-requires-6 c κs = search needs
-
--- src/bytes.rt:92:19
-wires-requires-7 : tie.Need-wires-requires-7
-wires-requires-7 c κs = search needs
-
--- src/bytes.rt:92:9
-port-byte-requires-7 : tie.Need-port-byte-requires-7
-port-byte-requires-7 c κs = search needs
-
--- src/bytes.rt:93:19
-wires-requires-8 : tie.Need-wires-requires-8
-wires-requires-8 c κs = search needs
-
--- src/bytes.rt:93:9
-port-byte-requires-8 : tie.Need-port-byte-requires-8
-port-byte-requires-8 c κs = search needs
-
--- src/bytes.rt:79:1
 returns : tie.Need-returns
 unfolding switchBytes bytesOf count
 returns c =
@@ -113,22 +36,8 @@ pub bytes-of-spec : {M : Type 1} → statement M
 bytes-of-spec =
     tie.close
     (tie.spec
-    cast-t4
-    cast-t7
-    wires-requires
-    port-byte-requires
-    wires-requires-2
-    port-byte-requires-2
-    wires-requires-3
-    port-byte-requires-3
-    wires-requires-4
-    port-byte-requires-4
-    wires-requires-5
-    port-byte-requires-5
-    wires-requires-6
-    port-byte-requires-6
-    wires-requires-7
-    port-byte-requires-7
-    wires-requires-8
-    port-byte-requires-8
+    (λ c. search needs) (λ c. search needs) (λ c κs. search needs) (λ c κs. search needs) (λ c κs. search needs) (λ c κs. search needs)
+    (λ c κs. search needs) (λ c κs. search needs) (λ c κs. search needs) (λ c κs. search needs) (λ c κs. search needs)
+    (λ c κs. search needs) (λ c κs. search needs) (λ c κs. search needs) (λ c κs. search needs) (λ c κs. search needs)
+    (λ c κs. search needs) (λ c κs. search needs)
     returns)

@@ -1,38 +1,20 @@
+use Rattle.capi_switch.proofs.CrossingFor.{start-length, start-wide, start-done}
 use borrow.Author.Needs.{needs}
 use Rattle.capi_switch.proofs.calls.musgarento_switch_start.Statement.{statement}
 use Rattle.capi_switch.proofs.calls.musgarento_switch_start.Tie as tie
-use Rattle.capi_switch.proofs.calls.musgarento_switch_start.Reads as reads
-use Rattle.capi_switch.proofs.calls.musgarento_switch_start.Lts as lts
-use Rattle.capi_switch.proofs.bytes.put_switch.Reads as put-switch-reads
-use Rattle.switch.proofs.keep.start.Reads as start-reads
 
--- src/calls.rt:16:9
 returns : tie.Need-returns
-returns c = ?
+returns c = start-length _ _ (c .if1 .taken)
 
--- src/calls.rt:19:9
 returns-2 : tie.Need-returns-2
-returns-2 c = ?
+returns-2 c = start-wide _ _ (c .before .if1 .left) (c .if2 .taken)
 
--- src/calls.rt:21:37
-cast-start : tie.Need-cast-start
-cast-start c = search needs
-
--- src/calls.rt:21:9
-start-requires : tie.Need-start-requires
-start-requires c κs = search needs
-
--- src/calls.rt:22:5
-put-switch-requires : tie.Need-put-switch-requires
-put-switch-requires c κs = search needs
-
--- src/calls.rt:11:1
-same-length : tie.Need-same-length
-same-length c = search needs
-
--- src/calls.rt:11:1
 returns-3 : tie.Need-returns-3
-returns-3 c = ?
+returns-3 c =
+    let at-put-switch = c .before .before in
+    let at-start = at-put-switch .before .before in
+    let at-if2 = at-start .before in
+    start-done _ _ (at-if2 .before .if1 .left) (at-if2 .if2 .left) _ _ (at-start .start .ensures) (at-put-switch .put-switch .ensures)
 
 pub musgarento-switch-start-spec : {M : Type 1} → statement M
 musgarento-switch-start-spec =
@@ -40,8 +22,5 @@ musgarento-switch-start-spec =
     (tie.spec
     returns
     returns-2
-    cast-start
-    start-requires
-    put-switch-requires
-    same-length
+    (λ c. search needs) (λ c κs. search needs) (λ c κs. search needs) (λ c. search needs)
     returns-3)
