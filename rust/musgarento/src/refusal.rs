@@ -59,7 +59,8 @@ refusals! {
     Mark = 20, "image under 294 bytes or wrong mark";
     Version = 21, "version not 1";
     Image = 22, "any other image that no sound card saves";
-    Lengths = 60, "card, configuration or sizes of another length than 289, 256 and 6";
+    PortPacket = 50, "port above 7, bytes that are no single packet, or a wire packet with a device number other than 0";
+    Lengths = 60, "card, configuration, sizes or switch of another length than 289, 256, 6 and 10, or bytes or requester that no switch has";
 }
 
 impl Refusal {
@@ -160,7 +161,7 @@ mod tests {
             .collect();
         assert_eq!(
             numbers,
-            [1, 2, 3, 4, 5, 6, 10, 11, 12, 13, 14, 15, 16, 17, 20, 21, 22, 60]
+            [1, 2, 3, 4, 5, 6, 10, 11, 12, 13, 14, 15, 16, 17, 20, 21, 22, 50, 60]
         );
     }
 
