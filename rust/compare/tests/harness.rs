@@ -1,7 +1,7 @@
 //! The harness finds faults and cuts their trials down. The faulty models are
 //! the second model with one thing changed.
 
-use compare::call::{Call, Outcome, Step};
+use compare::call::{Call, Outcome, Step, Subject};
 use compare::layout::{Layout, Mode};
 use compare::pair::{Model, Pair};
 use compare::print::trial_text;
@@ -12,7 +12,7 @@ use compare::world::{other_flags, World};
 
 /// The shortest trial for a fault, found by random trials.
 fn shortest(model: Model<'_>) -> Vec<Step> {
-    let mut runner = Runner::new(model, &|_| ());
+    let mut runner = Runner::new(Subject::Card, model, &|_| ());
     let failure = (0..1_000)
         .find_map(|trial| runner.random_trial(1, trial).err())
         .expect("the fault is found");
@@ -44,7 +44,7 @@ fn last_call(steps: &[Step]) -> &Call {
 
 #[test]
 fn no_fault() {
-    let mut runner = Runner::new(&second::apply, &|_| ());
+    let mut runner = Runner::new(Subject::Card, &second::apply, &|_| ());
     for trial in 0..100 {
         assert!(runner.random_trial(1, trial).is_ok());
     }
