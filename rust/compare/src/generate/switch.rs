@@ -15,6 +15,8 @@ pub struct SwitchGenerator {
     random: Random,
     /// The steps still to make before the trial ends.
     left: usize,
+    /// The ports in use: the first, and how many.
+    ports: (usize, usize),
     /// The upstream pin that most wires become.
     upstream: usize,
     /// One wire packet out of so many is a Deassert.
@@ -53,6 +55,7 @@ impl SwitchGenerator {
     pub fn new(mut random: Random) -> SwitchGenerator {
         SwitchGenerator {
             left: number_of_steps(&mut random),
+            ports: (random.below(8), random.pick(&[2, 3, 5, 8])),
             upstream: 1 + random.below(4),
             deasserts: random.pick(&[2, 3, 6]),
             random,
@@ -102,18 +105,23 @@ impl SwitchGenerator {
         Step::Byte(Part::Switch, at, world.switch[at] | high)
     }
 
-    /// Gives the ports any wires, and lets a few of them go down.
+    /// Gives the ports few or many active wires, and lets some of them go
+    /// down.
     fn fill_steps(&mut self, world: &World) -> Vec<Step> {
+        let random = &mut self.random;
+        let mut ports = [0, 1, 2, 3, 4, 5, 6, 7];
+        random.shuffle(&mut ports);
         let mut bytes = world.switch.clone();
-        let few = self.random.once_in(2);
-        for byte in &mut bytes[PORTS_AT..] {
-            let (a, b) = (self.random.number() as u8, self.random.number() as u8);
-            *byte = if few { a & b } else { a | b } & 15;
+        bytes[PORTS_AT..].fill(0);
+        let any = random.number() as u8;
+        let wires = random.pick(&[15, any | 3, any]) & 15;
+        for port in &ports[..1 + random.below(8)] {
+            let other = random.number() as u8;
+            bytes[PORTS_AT + port] = random.pick(&[wires, wires, other & 15]);
         }
         let mut steps = vec![Step::Contents(Part::Switch, bytes)];
-        for _ in 0..self.random.below(8) {
-            let call = SwitchCall::Down(self.random.below(8) as u64);
-            steps.push(self.with_room(call));
+        for port in &ports[..self.random.below(9)] {
+            steps.push(self.with_room(SwitchCall::Down(*port as u64)));
         }
         steps
     }
@@ -163,7 +171,8 @@ impl SwitchGenerator {
     /// trial, or one whose wire is active.
     fn place(&mut self, world: &World) -> (usize, usize) {
         let random = &mut self.random;
-        let port = random.below(8);
+        let (first, count) = self.ports;
+        let port = (first + random.below(count)) % 8;
         let wires = world.switch.get(PORTS_AT + port).copied().unwrap_or(0);
         match random.below(4) {
             0 => (port, 1 + random.below(4)),
