@@ -151,7 +151,8 @@ impl Switch {
         &self.state[PORTS_AT..]
     }
 
-    /// The upstream wires: those of the ports, each turned by its number.
+    /// The upstream wires: those of the ports, each turned by its number. Only
+    /// for looking at; what is sent comes from the proved code alone.
     fn upstream(&self) -> u8 {
         let ports = self.ports().iter().enumerate();
         ports.fold(0, |wires, (port, &own)| wires | turned(own, port))
