@@ -76,7 +76,8 @@ enum musgarento_refusal {
 
     /* Of a switch; then 6: */
     /* port above 7; bytes that are no single packet (any requester, address
-       bits 1:0 zero); or a wire packet with a device number other than 0 */
+       bits 1:0 zero); or a wire packet with a device number (bits 7:3 of its
+       requester ID) other than 0 */
     MUSGARENTO_PORT_PACKET = 50,
 
     /* Of a running card: */

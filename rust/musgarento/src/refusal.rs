@@ -14,10 +14,11 @@ macro_rules! refusals {
 
         /// All refusals, by their numbers.
         ///
-        /// The methods of [`Card`](crate::Card) have smaller error types, which
-        /// name only what can occur. Each of them converts into a `Refusal`, so
-        /// that `?` brings calls of several kinds together. The functions of
-        /// [`raw`](crate::raw) return the number alone.
+        /// The methods of [`Card`](crate::Card) and [`Switch`](crate::Switch)
+        /// have smaller error types, which name only what can occur. Each of
+        /// them converts into a `Refusal`, so that `?` brings calls of several
+        /// kinds together. The functions of [`raw`](crate::raw) return the
+        /// number alone.
         ///
         /// A refused call changes nothing.
         #[derive(Clone, Copy, Debug, PartialEq, Eq, Hash)]
@@ -145,6 +146,34 @@ errors! {
     /// Why a card was not restored: of the image, or of the card, which has
     /// another number of vectors.
     RestoreError: Mark, Version, Image, Buffers;
+    /// Why a switch refused a packet, or a port's going down.
+    PortError: PortPacket;
+}
+
+/// The result that the number returned by a call stands for.
+pub(crate) fn accepted<E: TryFrom<Refusal>>(number: u8) -> Result<(), E> {
+    if number == 0 {
+        return Ok(());
+    }
+    let refusal = Refusal::from_number(number);
+    match refusal.and_then(|refusal| E::try_from(refusal).ok()) {
+        Some(error) => Err(error),
+        None => unexpected(number),
+    }
+}
+
+/// The same for a call that is never refused.
+pub(crate) fn never_refused(number: u8) {
+    if number != 0 {
+        unexpected(number);
+    }
+}
+
+/// A card or switch of this crate is sound, its buffers fit and its output has
+/// room. The rules then give no other refusal than those in the error types.
+#[cold]
+fn unexpected(number: u8) -> ! {
+    panic!("refusal {number} of a call that cannot meet it");
 }
 
 #[cfg(test)]
@@ -180,6 +209,7 @@ mod tests {
         assert_eq!(numbers(EventError::number), [2]);
         assert_eq!(numbers(ImageError::number), [20, 21, 22]);
         assert_eq!(numbers(RestoreError::number), [17, 20, 21, 22]);
+        assert_eq!(numbers(PortError::number), [50]);
     }
 
     #[test]
