@@ -127,7 +127,8 @@ impl Statistics {
     fn count_50(&mut self, call: &SwitchCall) {
         let (port, wrong) = match call {
             SwitchCall::Packet { port, packet } => (*port, wrong_packet(packet)),
-            SwitchCall::Start(port) | SwitchCall::Down(port) => (*port, None),
+            SwitchCall::Down(port) => (*port, None),
+            SwitchCall::Start(_) => return,
         };
         match (port > 7, wrong) {
             (true, None) => self.met("50 for a port above 7 alone"),
@@ -230,7 +231,7 @@ fn sent<'a>(made: &Made<'a>) -> &'a [u8] {
 
 /// What is wrong with a packet, by its name; `None` if it is one that a port
 /// takes.
-pub fn wrong_packet(packet: &[u8]) -> Option<&'static str> {
+fn wrong_packet(packet: &[u8]) -> Option<&'static str> {
     match Packet::read(packet) {
         None if packet.is_empty() => Some("50 for no bytes"),
         None => Some("50 for bytes that are no packet"),
