@@ -1,7 +1,10 @@
 /*
- * The interrupts of one PCIe endpoint function: pin (INTx), MSI and MSI-X.
+ * The interrupts of one PCIe endpoint function: pin (INTx), MSI and MSI-X; and
+ * a switch between up to eight such cards and the host.
  *
- * The archive is built by `rt staticlib capi` as target/staticlib/libcapi.a.
+ * `rt staticlib capi` builds the functions of a card as
+ * target/staticlib/libcapi.a, and `rt staticlib capi_switch` those of a switch
+ * (musgarento_switch_*) as target/staticlib/libcapi_switch.a.
  *
  * A card crosses this interface as 289 bytes, those that stand in a saved
  * image from the flags to the last configuration byte, numbers little-endian:
@@ -17,14 +20,21 @@
  * (8 bytes for each 64 vectors or part of them) are lent at each call. N is
  * MSI-X Table Size + 1, or 0 with no MSI-X.
  *
+ * A switch crosses as 10 bytes:
+ *
+ *     bytes 0, 1     requester ID, little-endian
+ *     byte 2 + k     the wires of port k, 0 to 7: bit p - 1 is the level of
+ *                    card pin p, bits 7:4 are 0
+ *
  * Every function takes any bytes, numbers and lengths, and returns 0 or the
  * number of its refusal. A refused call changes no byte of card, table,
- * pending array or output, and sets value, count and answer to 0; only a start
- * that is refused with 10 to 17 leaves a card of 289 zeros.
+ * pending array, switch or output, and sets value, count and answer to 0; only
+ * a card's start that is refused with 10 to 17 leaves a card of 289 zeros. The
+ * output's bytes behind what is sent keep their contents.
  *
  * A rule is about the whole number that is handed in, and no number is cut: a
- * width of 260 is not a width of 4. Only a write's value may have bytes beyond
- * the width, which are dropped.
+ * width of 260 is not a width of 4, and port 256 is not port 0. Only a write's
+ * value may have bytes beyond the width, which are dropped.
  *
  * No pointer may be null, not even one with a length of 0, and a buffer that
  * is written may not overlap another one.
@@ -44,18 +54,31 @@ extern "C" {
 #define MUSGARENTO_CONFIG_BYTES 256
 /* The number of BAR sizes given to a start. */
 #define MUSGARENTO_SIZES 6
-/* The most bytes of packets that one call makes, and the longest image. */
+/* The most bytes of packets that one call of a card makes, and the longest
+   image. */
 #define MUSGARENTO_PACKET_BYTES 40976
 #define MUSGARENTO_IMAGE_BYTES 33318
+/* The bytes of a switch, and the most bytes of packets that one call of it
+   sends upstream: four wire packets of a port that goes down. */
+#define MUSGARENTO_SWITCH_BYTES 10
+#define MUSGARENTO_SWITCH_PACKET_BYTES 64
 
 /* The refusals, in the order in which they are checked. */
 enum musgarento_refusal {
     MUSGARENTO_ACCEPTED = 0,
 
-    /* Of every function. Another length than 289, 256 and 6 of card,
-       configuration or sizes. Nothing changes, not even the card of a
-       start. */
+    /* Of every function. Another length than 289, 256, 6 and 10 of card,
+       configuration, sizes or switch. Of a switch also bytes that no switch
+       has, that is a port's byte above 15, or at its start, which does not ask
+       what the bytes were, a requester above FFFFh. Nothing changes, not even
+       the card of a start. */
     MUSGARENTO_LENGTHS = 60,
+
+    /* Of a switch; then 6: */
+    /* port above 7; bytes that are no single packet (any requester, address
+       bits 1:0 zero); or a wire packet with a device number (bits 7:3 of its
+       requester ID) other than 0 */
+    MUSGARENTO_PORT_PACKET = 50,
 
     /* Of a running card: */
     /* card not sound (all calls but start and restore); no card is sound
@@ -197,6 +220,28 @@ uint8_t musgarento_restore(uint8_t *card, size_t card_len,
                            uint8_t *table, size_t table_len,
                            uint8_t *pending, size_t pending_len,
                            const uint8_t *image, size_t image_len);
+
+/* Starts a switch: no wire is active. The requester ID may have any function
+   part. Refusal: 60. What the switch's bytes were before does not matter. */
+uint8_t musgarento_switch_start(uint8_t *state, size_t state_len,
+                                uint64_t requester);
+
+/* A packet from the card at a port; count is the number of bytes that are sent
+   upstream. Card pin p at port k is upstream pin ((k + p - 1) mod 4) + 1, whose
+   wire is active while any port's wire of it is. A wire packet sends one with
+   the switch's requester ID, function part 0, if it changes the upstream wire,
+   else nothing; a message is sent as it is. Refusals: 60, 50, 6. */
+uint8_t musgarento_switch_packet(uint8_t *state, size_t state_len,
+                                 uint64_t port,
+                                 const uint8_t *packet, size_t packet_len,
+                                 uint8_t *out, size_t out_len, size_t *count);
+
+/* A port goes down: its wires become inactive, and each upstream wire that
+   changes sends a Deassert, in the order of the upstream pins. The port takes
+   packets as before. Refusals: 60, 50, 6. */
+uint8_t musgarento_switch_down(uint8_t *state, size_t state_len,
+                               uint64_t port,
+                               uint8_t *out, size_t out_len, size_t *count);
 
 #ifdef __cplusplus
 }

@@ -1,14 +1,17 @@
-//! Finds the archive of the proved card.
+//! Finds the archives of the proved card and of the proved switch.
 
 use std::env;
-use std::path::PathBuf;
+use std::path::{Path, PathBuf};
 use std::process::exit;
 
-/// Names a folder that has `libcapi.a`.
+/// The libraries, each under the name of the crate that it is built from.
+const LIBRARIES: [&str; 2] = ["capi", "capi_switch"];
+
+/// Names a folder that has the archives.
 const VARIABLE: &str = "MUSGARENTO_LIB_DIR";
 
-/// The folder of the archive: the one named by the variable, or the place
-/// where `rt staticlib` writes it.
+/// The folder of the archives: the one named by the variable, or the place
+/// where `rt staticlib` writes them.
 fn folder() -> PathBuf {
     match env::var_os(VARIABLE) {
         Some(folder) => PathBuf::from(folder),
@@ -19,17 +22,26 @@ fn folder() -> PathBuf {
     }
 }
 
+/// Links a library's archive; says whether it is there.
+fn link(folder: &Path, library: &str) -> bool {
+    let archive = folder.join(format!("lib{library}.a"));
+    println!("cargo:rerun-if-changed={}", archive.display());
+    println!("cargo:rustc-link-lib=static={library}");
+    if !archive.is_file() {
+        eprintln!("{} is missing.", archive.display());
+        eprintln!("`rt staticlib {library}`, in the top folder of the repository, builds it.");
+        return false;
+    }
+    true
+}
+
 fn main() {
     println!("cargo:rerun-if-env-changed={VARIABLE}");
     let folder = folder();
-    let archive = folder.join("libcapi.a");
-    println!("cargo:rerun-if-changed={}", archive.display());
-    if !archive.is_file() {
-        eprintln!("{} is missing.", archive.display());
-        eprintln!("`rt staticlib capi`, in the top folder of the repository, builds it.");
-        eprintln!("{VARIABLE} names another folder that has it.");
+    println!("cargo:rustc-link-search=native={}", folder.display());
+    let missing = LIBRARIES.map(|library| !link(&folder, library));
+    if missing.contains(&true) {
+        eprintln!("{VARIABLE} names another folder that has both archives.");
         exit(1);
     }
-    println!("cargo:rustc-link-search=native={}", folder.display());
-    println!("cargo:rustc-link-lib=static=capi");
 }

@@ -1,4 +1,4 @@
-//! The calls to measure. Each case makes a number of equal calls and gives the
+//! The calls of a card to measure. Each case makes a number of equal calls and gives the
 //! last refusal, which must be 0.
 
 use crate::state::{Given, Proved, Second, States, MSIX, TABLE_BAR};
@@ -11,13 +11,14 @@ pub type Calls = Box<dyn FnMut(u64) -> u8>;
 /// A call, made by both models on the same input.
 pub struct Case {
     pub name: &'static str,
-    pub vectors: usize,
+    /// N of the card; a switch has none.
+    pub vectors: Option<usize>,
     pub proved: Calls,
     pub second: Calls,
 }
 
 /// Makes the case's calls.
-fn repeat<S: 'static>(mut state: S, call: impl Fn(&mut S, u64) -> u8 + 'static) -> Calls {
+pub fn repeat<S: 'static>(mut state: S, call: impl Fn(&mut S, u64) -> u8 + 'static) -> Calls {
     Box::new(move |count| {
         let mut refusal = 0;
         for i in 0..count {
@@ -35,7 +36,7 @@ pub fn cases(vectors: usize) -> Vec<Case> {
     let mut add = |name, proved, second| {
         cases.push(Case {
             name,
-            vectors,
+            vectors: Some(vectors),
             proved,
             second,
         })

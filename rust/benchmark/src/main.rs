@@ -1,13 +1,14 @@
-//! Times of the proved card's calls, through the C interface, against the
-//! second model and against a plain scan of the buffers. Prints a Markdown
-//! table. `--rounds R` sets the number of rounds.
+//! Times of the proved card's and switch's calls, through the C interface,
+//! against the second model, and of a card's against a plain scan of the
+//! buffers. Prints a Markdown table. `--rounds R` sets the number of rounds.
 
 mod cases;
 mod floor;
 mod measure;
 mod state;
+mod switch;
 
-use cases::{cases, Case};
+use cases::Case;
 use measure::{medians, ROUND};
 use std::env;
 use std::hint::black_box;
@@ -28,9 +29,10 @@ fn rounds() -> Option<usize> {
 
 /// Measures a case and prints its row.
 fn print_row(case: &mut Case, rounds: usize) {
-    let table = vec![0_u8; 16 * case.vectors];
-    let pending = vec![0_u8; 8 * case.vectors.div_ceil(64)];
-    assert_eq!((case.proved)(4), 0, "{} by the proved card", case.name);
+    let vectors = case.vectors.unwrap_or(0);
+    let table = vec![0_u8; 16 * vectors];
+    let pending = vec![0_u8; 8 * vectors.div_ceil(64)];
+    assert_eq!((case.proved)(4), 0, "{} by the proved code", case.name);
     assert_eq!((case.second)(4), 0, "{} by the second model", case.name);
     let [proved, second, floor] = medians(
         [
@@ -49,13 +51,14 @@ fn print_row(case: &mut Case, rounds: usize) {
         rounds,
     );
     let ratio = proved / second;
-    let floors = match case.vectors {
+    let n = case.vectors.map_or("-".to_string(), |n| n.to_string());
+    let floors = match vectors {
         0 => "- | -".to_string(),
         _ => format!("{floor:.0} | {:.2}", proved / floor),
     };
     println!(
-        "| {} | {} | {proved:.0} | {second:.0} | {ratio:.2} | {floors} |",
-        case.name, case.vectors
+        "| {} | {n} | {proved:.0} | {second:.0} | {ratio:.2} | {floors} |",
+        case.name
     );
 }
 
@@ -70,13 +73,18 @@ fn main() -> ExitCode {
     println!("were not cleared before a call. The proved card is called through the C");
     println!("interface with its 289 bytes, the second model with its own struct. The floor");
     println!("of the soundness check is a scan of table and pending array by 64-bit words.");
-    println!("A release copies card and pending array back before each call, in both.\n");
+    println!("A release copies card and pending array back before each call, in both. A");
+    println!("switch has no N; it is called with its 10 bytes, and copied back before each");
+    println!("call of a port going down, in both.\n");
     println!("| Call | N | Proved | Second model | Proved / second | Floor | Proved / floor |");
     println!("|---|---:|---:|---:|---:|---:|---:|");
     for vectors in VECTORS {
-        for case in &mut cases(vectors) {
+        for case in &mut cases::cases(vectors) {
             print_row(case, rounds);
         }
+    }
+    for case in &mut switch::cases() {
+        print_row(case, rounds);
     }
     ExitCode::SUCCESS
 }

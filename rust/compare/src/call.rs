@@ -1,8 +1,8 @@
 //! Calls and the other steps of a trial.
 
-use crate::world::Part;
+use crate::world::{Part, ROOM, SWITCH_ROOM};
 
-/// One call with its arguments, but for card, buffers and output.
+/// One call with its arguments, but for card, buffers, switch and output.
 #[derive(Clone, Debug, PartialEq, Eq)]
 pub enum Call {
     Start(Given),
@@ -32,6 +32,21 @@ pub enum Call {
     /// The image is kept under this number.
     Save(usize),
     Restore(Image),
+    /// A call of a switch; the others are of a card.
+    Switch(SwitchCall),
+}
+
+/// One call of a switch.
+#[derive(Clone, Debug, PartialEq, Eq)]
+pub enum SwitchCall {
+    /// With this requester ID.
+    Start(u64),
+    Packet {
+        port: u64,
+        packet: Vec<u8>,
+    },
+    /// This port goes down.
+    Down(u64),
 }
 
 /// What a start is given.
@@ -85,8 +100,25 @@ pub enum Step {
     Contents(Part, Vec<u8>),
 }
 
-/// The kinds of calls, in the order of `Call`.
-pub const KINDS: [&str; 10] = [
+/// What a run compares.
+#[derive(Clone, Copy, Debug, PartialEq, Eq)]
+pub enum Subject {
+    Card,
+    Switch,
+}
+
+impl Subject {
+    /// The name to print.
+    pub fn name(self) -> &'static str {
+        match self {
+            Subject::Card => "card",
+            Subject::Switch => "switch",
+        }
+    }
+}
+
+/// The kinds of calls of a card, in the order of `Call`.
+pub const CARD_KINDS: [&str; 10] = [
     "start",
     "config read",
     "config write",
@@ -99,8 +131,11 @@ pub const KINDS: [&str; 10] = [
     "restore",
 ];
 
+/// The kinds of calls of a switch, in the order of `SwitchCall`.
+pub const SWITCH_KINDS: [&str; 3] = ["switch start", "packet", "port down"];
+
 impl Call {
-    /// The place of the call's kind in `KINDS`.
+    /// The place of the call's kind in `CARD_KINDS` or `SWITCH_KINDS`.
     pub fn kind(&self) -> usize {
         match self {
             Call::Start(_) => 0,
@@ -113,6 +148,9 @@ impl Call {
             Call::Reset => 7,
             Call::Save(_) => 8,
             Call::Restore(_) => 9,
+            Call::Switch(SwitchCall::Start(_)) => 0,
+            Call::Switch(SwitchCall::Packet { .. }) => 1,
+            Call::Switch(SwitchCall::Down(_)) => 2,
         }
     }
 
@@ -120,8 +158,20 @@ impl Call {
     pub fn has_output(&self) -> bool {
         !matches!(
             self,
-            Call::Start(_) | Call::ConfigRead { .. } | Call::BarRead { .. } | Call::Restore(_)
+            Call::Start(_)
+                | Call::ConfigRead { .. }
+                | Call::BarRead { .. }
+                | Call::Restore(_)
+                | Call::Switch(SwitchCall::Start(_))
         )
+    }
+
+    /// No call of this kind writes more bytes.
+    pub fn most_bytes(&self) -> usize {
+        match self {
+            Call::Switch(_) => SWITCH_ROOM,
+            _ => ROOM,
+        }
     }
 }
 

@@ -4,8 +4,9 @@ mod damage;
 mod interface;
 mod interrupts;
 mod starts;
+mod switch;
 
-use crate::call::{Call, Damage, Given, Image, Room, Step};
+use crate::call::{Call, Damage, Given, Image, Room, Step, Subject};
 use crate::generate::start_steps;
 use crate::given::{PLAIN_PENDING, PLAIN_TABLE};
 use crate::layout::Place;
@@ -17,8 +18,15 @@ use crate::world::{Part, World, ROOM};
 /// The result of running trials.
 type Run = Result<(), Box<Failure>>;
 
-/// Runs all directed trials.
+/// Runs all directed trials of cards or of switches.
 pub fn run(runner: &mut Runner<'_>) -> Run {
+    match runner.subject {
+        Subject::Card => run_cards(runner),
+        Subject::Switch => switch::run(runner),
+    }
+}
+
+fn run_cards(runner: &mut Runner<'_>) -> Run {
     starts::run(runner)?;
     interrupts::run(runner)?;
     damage::run(runner)?;

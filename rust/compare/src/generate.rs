@@ -1,7 +1,9 @@
 //! Random trials. The next steps are chosen by the state that the second model
 //! is in, so that they reach something.
 
-use crate::call::{Call, Damage, Given, Image, Room, Step};
+mod switch;
+
+use crate::call::{Call, Damage, Given, Image, Room, Step, Subject};
 use crate::given::{arbitrary, spoil, valid};
 use crate::layout::{pending_bytes, table_bytes, Layout};
 use crate::pair::Pair;
@@ -13,27 +15,43 @@ use crate::world::{Part, World, CARD_BYTES, ROOM};
 const SLOTS: usize = 4;
 
 /// A trial that is being made up.
-pub struct Generator {
+pub trait Generator {
+    /// The first steps.
+    fn first(&mut self) -> Vec<Step>;
+
+    /// The next steps, or none at the end of the trial.
+    fn next(&mut self, pair: &Pair<'_>) -> Vec<Step>;
+}
+
+/// The trial with this number under a seed.
+pub fn trial(subject: Subject, seed: u64, trial: u64) -> Box<dyn Generator> {
+    let random = Random::new(seed, trial);
+    match subject {
+        Subject::Card => Box::new(CardGenerator::new(random)),
+        Subject::Switch => Box::new(switch::SwitchGenerator::new(random)),
+    }
+}
+
+/// The number of steps of a trial, mostly 60.
+fn number_of_steps(random: &mut Random) -> usize {
+    match random.below(32) {
+        0 => 1_000,
+        1..=4 => 200,
+        5..=8 => 4,
+        _ => 60,
+    }
+}
+
+/// A trial of a card.
+struct CardGenerator {
     random: Random,
     /// The steps still to make before the trial ends.
     left: usize,
 }
 
-impl Generator {
-    /// The trial with this number under a seed.
-    pub fn new(seed: u64, trial: u64) -> Generator {
-        let mut random = Random::new(seed, trial);
-        let left = match random.below(32) {
-            0 => 1_000,
-            1..=4 => 200,
-            5..=8 => 4,
-            _ => 60,
-        };
-        Generator { random, left }
-    }
-
+impl Generator for CardGenerator {
     /// The first steps: buffers and a start.
-    pub fn first(&mut self) -> Vec<Step> {
+    fn first(&mut self) -> Vec<Step> {
         let random = &mut self.random;
         let mut given = match random.below(8) {
             0 => arbitrary(random),
@@ -53,6 +71,29 @@ impl Generator {
         steps
     }
 
+    fn next(&mut self, pair: &Pair<'_>) -> Vec<Step> {
+        if self.left == 0 {
+            return Vec::new();
+        }
+        let layout = Layout::of_card(&pair.world().card);
+        let steps = if second::is_sound(pair.world()) {
+            self.sound_steps(pair, &layout)
+        } else {
+            self.unsound_steps(pair, &layout)
+        };
+        // A large card costs more.
+        let weight = 1 + layout.vectors() / 400;
+        self.left = self.left.saturating_sub(weight * steps.len().max(1));
+        steps
+    }
+}
+
+impl CardGenerator {
+    fn new(mut random: Random) -> CardGenerator {
+        let left = number_of_steps(&mut random);
+        CardGenerator { random, left }
+    }
+
     /// Changes a length that a start is given.
     fn spoil_lengths(&mut self, steps: &mut [Step]) {
         let random = &mut self.random;
@@ -68,23 +109,6 @@ impl Generator {
                 given.sizes.resize(length, 0);
             }
         }
-    }
-
-    /// The next steps, or none at the end of the trial.
-    pub fn next(&mut self, pair: &Pair<'_>) -> Vec<Step> {
-        if self.left == 0 {
-            return Vec::new();
-        }
-        let layout = Layout::of_card(&pair.world().card);
-        let steps = if second::is_sound(pair.world()) {
-            self.sound_steps(pair, &layout)
-        } else {
-            self.unsound_steps(pair, &layout)
-        };
-        // A large card costs more.
-        let weight = 1 + layout.vectors() / 400;
-        self.left = self.left.saturating_sub(weight * steps.len().max(1));
-        steps
     }
 
     /// Steps on a card that is sound.
@@ -567,6 +591,7 @@ fn foreign_image(random: &mut Random) -> Vec<u8> {
         card: vec![0; CARD_BYTES],
         table: vec![0; table_bytes(layout.vectors())],
         pending: vec![0; pending_bytes(layout.vectors())],
+        switch: Vec::new(),
         out: vec![0; ROOM],
     };
     let mut calls = vec![Call::Start(given)];

@@ -1,15 +1,17 @@
-//! Compares the proved card, through the C interface, with the second model.
+//! Compares the proved card and the proved switch, through the C interface,
+//! with the second model.
 //!
 //! Both are given the same calls with the same bytes, and after every call the
 //! refusal, answer, value and count and every byte of card, table, pending
-//! array and output are compared. There are directed trials, for the edges of
-//! each rule, and random ones.
+//! array, switch and output are compared. There are directed trials, for the
+//! edges of each rule, and random ones.
 
 pub mod call;
 pub mod directed;
 pub mod generate;
 pub mod given;
 pub mod layout;
+pub mod packets;
 pub mod pair;
 pub mod print;
 pub mod proved;

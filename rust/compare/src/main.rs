@@ -1,7 +1,9 @@
-//! `compare --calls N --seed S`: directed trials, then random ones until N
-//! calls are made. `--directed 0` leaves out the directed ones, and `--trial K`
-//! runs only random trial K.
+//! `compare --calls N --seed S`: the comparison of cards, then that of
+//! switches. Each runs its directed trials, then random ones until it has made
+//! N calls. `--directed 0` leaves out the directed ones, and `--trial K` runs
+//! only random trial K. `--cards 0` or `--switches 0` leaves out a comparison.
 
+use compare::call::Subject;
 use compare::directed;
 use compare::print::trial_text;
 use compare::proved;
@@ -13,7 +15,12 @@ use std::env;
 use std::process::ExitCode;
 use std::time::{Duration, Instant};
 
-const USAGE: &str = "usage: compare [--calls N] [--seed S] [--directed 0|1] [--trial K]";
+const USAGE: &str = "\
+usage: compare [--calls N] [--seed S] [--directed 0|1] [--trial K]
+               [--cards 0|1] [--switches 0|1]
+
+Compares cards, then switches, N calls each: directed trials, then random ones.
+--trial K runs only random trial K of each.";
 
 /// What the command line asks for.
 struct Options {
@@ -21,6 +28,8 @@ struct Options {
     seed: u64,
     directed: bool,
     trial: Option<u64>,
+    cards: bool,
+    switches: bool,
 }
 
 /// Reads the command line.
@@ -30,6 +39,8 @@ fn options() -> Option<Options> {
         seed: 1,
         directed: true,
         trial: None,
+        cards: true,
+        switches: true,
     };
     let mut words = env::args().skip(1);
     while let Some(word) = words.next() {
@@ -39,6 +50,8 @@ fn options() -> Option<Options> {
             "--seed" => options.seed = number,
             "--directed" => options.directed = number != 0,
             "--trial" => options.trial = Some(number),
+            "--cards" => options.cards = number != 0,
+            "--switches" => options.switches = number != 0,
             _ => return None,
         }
     }
@@ -97,12 +110,8 @@ fn print_lines(lines: &[String]) {
     }
 }
 
-fn main() -> ExitCode {
-    let Some(options) = options() else {
-        eprintln!("{USAGE}");
-        return ExitCode::from(2);
-    };
-    println!("seed {}, {} calls", options.seed, options.calls);
+/// Runs one of the comparisons; says whether there was no difference.
+fn compare(subject: Subject, options: &Options) -> bool {
     let begun = Instant::now();
     let shown = Cell::new(begun);
     let progress = |statistics: &Statistics| {
@@ -113,17 +122,32 @@ fn main() -> ExitCode {
             eprintln!("{calls} calls, {trials} trials, {seconds} s");
         }
     };
-    let mut runner = Runner::new(&proved::apply, &progress);
-    let result = run(&mut runner, &options);
+    let mut runner = Runner::new(subject, &proved::apply, &progress);
+    let result = run(&mut runner, options);
     println!("{}", runner.statistics.text());
     match result {
         Ok(()) => {
-            println!("no difference, {:.1} s", begun.elapsed().as_secs_f64());
-            ExitCode::SUCCESS
+            let seconds = begun.elapsed().as_secs_f64();
+            println!("{}: no difference, {seconds:.1} s\n", subject.name());
+            true
         }
         Err(failure) => {
             report(&runner, &failure);
-            ExitCode::FAILURE
+            false
         }
+    }
+}
+
+fn main() -> ExitCode {
+    let Some(options) = options() else {
+        eprintln!("{USAGE}");
+        return ExitCode::from(2);
+    };
+    println!("seed {}, {} calls", options.seed, options.calls);
+    let cards = !options.cards || compare(Subject::Card, &options);
+    let switches = !options.switches || compare(Subject::Switch, &options);
+    match cards && switches {
+        true => ExitCode::SUCCESS,
+        false => ExitCode::FAILURE,
     }
 }

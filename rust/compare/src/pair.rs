@@ -3,7 +3,7 @@
 
 use crate::call::{Call, Damage, Image, Outcome, Room, Step};
 use crate::second;
-use crate::world::{card_byte_name, other_flags, Part, World, ROOM};
+use crate::world::{other_flags, World, PARTS};
 use std::collections::BTreeMap;
 
 /// A model under comparison: makes a call on a world.
@@ -30,6 +30,8 @@ pub struct Made<'a> {
     pub card: &'a [u8],
     /// The flags of the card before the call, besides line and wire.
     pub other_flags: u8,
+    pub switch: &'a [u8],
+    pub switch_before: Vec<u8>,
 }
 
 impl<'a> Pair<'a> {
@@ -76,6 +78,7 @@ impl<'a> Pair<'a> {
         let image = self.image_of(call);
         let length = self.output_length(call, room, &image);
         let other_flags = other_flags(&self.second.card);
+        let switch_before = self.second.switch.clone();
         self.tested.lend_output(length);
         self.second.lend_output(length);
         let tested = (self.model)(&mut self.tested, call, &image);
@@ -92,6 +95,8 @@ impl<'a> Pair<'a> {
             out: &self.second.out,
             card: &self.second.card,
             other_flags,
+            switch: &self.second.switch,
+            switch_before,
         })
     }
 
@@ -119,7 +124,7 @@ impl<'a> Pair<'a> {
     /// The bytes that the call writes, by the second model.
     fn needed(&self, call: &Call, image: &[u8]) -> usize {
         let mut copy = self.second.clone();
-        copy.lend_output(ROOM);
+        copy.lend_output(call.most_bytes());
         second::apply(&mut copy, call, image).count.unwrap_or(0)
     }
 }
@@ -166,15 +171,15 @@ fn compare(
     }
     let mut lines = Vec::new();
     if tested != second {
-        lines.push(format!("the proved card gave  {}", outcome_text(tested)));
+        lines.push(format!("the proved model gave {}", outcome_text(tested)));
         lines.push(format!("the second model gave {}", outcome_text(second)));
     }
-    for part in [Part::Card, Part::Table, Part::Pending] {
+    for part in PARTS {
         let (a, b) = (tested_world.part(part), second_world.part(part));
-        bytes_text(part.name(), a, b, part == Part::Card, &mut lines);
+        bytes_text(part.name(), a, b, |at| part.byte_name(at), &mut lines);
     }
     let (a, b) = (&tested_world.out, &second_world.out);
-    bytes_text("output", a, b, false, &mut lines);
+    bytes_text("output", a, b, |_| String::new(), &mut lines);
     Err(Difference(lines))
 }
 
@@ -199,15 +204,20 @@ pub fn outcome_text(outcome: &Outcome) -> String {
 }
 
 /// Lists the first bytes in which two parts differ.
-fn bytes_text(name: &str, tested: &[u8], second: &[u8], card: bool, lines: &mut Vec<String>) {
+fn bytes_text(
+    name: &str,
+    tested: &[u8],
+    second: &[u8],
+    byte_name: impl Fn(usize) -> String,
+    lines: &mut Vec<String>,
+) {
     let places = (0..tested.len()).filter(|&at| tested[at] != second[at]);
     let count = places.clone().count();
     for at in places.take(8) {
-        let field = if card {
-            format!(" ({})", card_byte_name(at))
-        } else {
-            String::new()
-        };
+        let mut field = byte_name(at);
+        if !field.is_empty() {
+            field = format!(" ({field})");
+        }
         lines.push(format!(
             "{name} byte {at}{field}: proved {:02X}, second {:02X}",
             tested[at], second[at]

@@ -1,6 +1,6 @@
 //! Prints a trial so that a person can follow and replay it.
 
-use crate::call::{Call, Damage, Given, Image, Step};
+use crate::call::{Call, Damage, Given, Image, Step, SwitchCall};
 use crate::pair::{outcome_text, Pair};
 use crate::second;
 use musgarento::Packets;
@@ -95,6 +95,24 @@ fn call_text(call: &Call) -> String {
         Call::Reset => "reset".to_string(),
         Call::Save(number) => format!("save as image {number}"),
         Call::Restore(image) => image_text(image),
+        Call::Switch(call) => switch_call_text(call),
+    }
+}
+
+/// One call of a switch with its arguments.
+fn switch_call_text(call: &SwitchCall) -> String {
+    match call {
+        SwitchCall::Start(requester) => format!("switch start, requester {requester:04X}h"),
+        SwitchCall::Packet { port, packet } => {
+            let bytes: Vec<String> = packet.iter().map(|byte| format!("{byte:02X}")).collect();
+            format!(
+                "packet at port {}, {} bytes: {}",
+                number_text(*port),
+                packet.len(),
+                bytes.join(" ")
+            )
+        }
+        SwitchCall::Down(port) => format!("port {} down", number_text(*port)),
     }
 }
 

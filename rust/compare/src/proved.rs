@@ -1,6 +1,6 @@
-//! The proved card, through the C interface.
+//! The proved card and the proved switch, through the C interface.
 
-use crate::call::{Call, Outcome};
+use crate::call::{Call, Outcome, SwitchCall};
 use crate::world::World;
 use musgarento::raw;
 
@@ -14,6 +14,7 @@ pub fn apply(world: &mut World, call: &Call, image: &[u8]) -> Outcome {
         card,
         table,
         pending,
+        switch,
         out,
     } = world;
     let mut count = usize::from(UNSET);
@@ -78,5 +79,16 @@ pub fn apply(world: &mut World, call: &Call, image: &[u8]) -> Outcome {
             Outcome::wrote(refusal, count)
         }
         Call::Restore(_) => Outcome::number(raw::restore(card, table, pending, image)),
+        Call::Switch(SwitchCall::Start(requester)) => {
+            Outcome::number(raw::switch_start(switch, *requester))
+        }
+        Call::Switch(SwitchCall::Packet { port, packet }) => {
+            let refusal = raw::switch_packet(switch, *port, packet, out, &mut count);
+            Outcome::wrote(refusal, count)
+        }
+        Call::Switch(SwitchCall::Down(port)) => {
+            let refusal = raw::switch_down(switch, *port, out, &mut count);
+            Outcome::wrote(refusal, count)
+        }
     }
 }

@@ -1,7 +1,7 @@
 //! Runs trials and counts what they meet.
 
-use crate::call::Step;
-use crate::generate::Generator;
+use crate::call::{Step, Subject};
+use crate::generate;
 use crate::pair::{Difference, Model, Pair};
 use crate::statistics::Statistics;
 
@@ -13,8 +13,9 @@ pub struct Failure {
     pub difference: Difference,
 }
 
-/// Runs trials against a model.
+/// Runs trials of cards or of switches against a model.
 pub struct Runner<'a> {
+    pub subject: Subject,
     pub model: Model<'a>,
     pub statistics: Statistics,
     progress: &'a dyn Fn(&Statistics),
@@ -22,10 +23,15 @@ pub struct Runner<'a> {
 
 impl<'a> Runner<'a> {
     /// A runner that reports its progress after each trial.
-    pub fn new(model: Model<'a>, progress: &'a dyn Fn(&Statistics)) -> Runner<'a> {
+    pub fn new(
+        subject: Subject,
+        model: Model<'a>,
+        progress: &'a dyn Fn(&Statistics),
+    ) -> Runner<'a> {
         Runner {
+            subject,
             model,
-            statistics: Statistics::default(),
+            statistics: Statistics::new(subject),
             progress,
         }
     }
@@ -49,7 +55,7 @@ impl<'a> Runner<'a> {
     /// Makes up and runs a random trial.
     pub fn random_trial(&mut self, seed: u64, trial: u64) -> Result<(), Box<Failure>> {
         let mut pair = Pair::new(self.model);
-        let mut generator = Generator::new(seed, trial);
+        let mut generator = generate::trial(self.subject, seed, trial);
         let mut made: Vec<Step> = Vec::new();
         let mut steps = generator.first();
         while !steps.is_empty() {
@@ -58,7 +64,7 @@ impl<'a> Runner<'a> {
                 let last = &made[made.len() - 1];
                 if let Err(difference) = self.step(&mut pair, last) {
                     return Err(Box::new(Failure {
-                        name: format!("random trial {trial}"),
+                        name: format!("random {} trial {trial}", self.subject.name()),
                         steps: made,
                         difference,
                     }));

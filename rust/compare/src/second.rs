@@ -1,10 +1,15 @@
 //! The second model behind the same interface of bytes.
 
+mod switch;
+
+pub use switch::is_switch;
+
 use crate::call::{Call, Given, Outcome};
 use crate::world::{other_flags, World, CARD_BYTES, CONFIG_AT, SIZES_AT};
 use second_model::{Answer, Card};
 
-/// The number for wrong lengths of card, configuration or sizes.
+/// The number for wrong lengths of card, configuration or sizes, and for bytes
+/// that no switch has.
 const LENGTHS: u8 = 60;
 
 /// The card in these bytes; `None` if a card has another number of bytes.
@@ -46,8 +51,10 @@ pub fn is_sound(world: &World) -> bool {
 
 /// Makes a call. `image` is the image of a restore.
 pub fn apply(world: &mut World, call: &Call, image: &[u8]) -> Outcome {
-    if let Call::Start(given) = call {
-        return start(world, given);
+    match call {
+        Call::Start(given) => return start(world, given),
+        Call::Switch(call) => return switch::apply(world, call),
+        _ => {}
     }
     let Some(mut card) = read_card(&world.card) else {
         return outcome(call, LENGTHS, None);
@@ -90,7 +97,7 @@ fn apply_to_card(
         ..
     } = world;
     match *call {
-        Call::Start(_) => unreachable!("a start has no card"),
+        Call::Start(_) | Call::Switch(_) => unreachable!("these have no card"),
         Call::ConfigRead { offset, width } => {
             second_model::config_read(card, table, pending, offset, width)
         }

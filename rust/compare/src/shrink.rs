@@ -1,8 +1,8 @@
 //! Cuts a failing trial down to a short one that still fails.
 
-use crate::call::{Call, Given, Image, Room, Step};
+use crate::call::{Call, Given, Image, Room, Step, SwitchCall};
 use crate::pair::{Difference, Model, Pair};
-use crate::world::Part;
+use crate::world::PARTS;
 use std::time::{Duration, Instant};
 
 /// How long to look for a shorter trial, and then for simpler bytes.
@@ -54,7 +54,7 @@ pub fn alone(model: Model<'_>, steps: &[Step]) -> Option<Failing> {
     };
     let image = pair.image_of(call);
     let length = pair.output_length(call, *room, &image);
-    let mut parts = vec![Part::Card, Part::Table, Part::Pending];
+    let mut parts = PARTS.to_vec();
     parts.retain(|&part| !pair.world().part(part).is_empty());
     let mut steps: Vec<Step> = parts
         .into_iter()
@@ -187,6 +187,7 @@ fn bytes_of(step: &mut Step) -> Option<&mut Vec<u8>> {
     match step {
         Step::Contents(_, bytes) | Step::Call(Call::Restore(Image::Bytes(bytes)), _) => Some(bytes),
         Step::Call(Call::Start(given), _) => Some(&mut given.config),
+        Step::Call(Call::Switch(SwitchCall::Packet { packet, .. }), _) => Some(packet),
         _ => None,
     }
 }
@@ -250,6 +251,11 @@ fn numbers(call: &mut Call) -> Vec<&mut u64> {
             value,
         } => vec![bar, offset, width, value],
         Call::Event(number) | Call::Line(number) => vec![number],
+        Call::Switch(
+            SwitchCall::Start(number)
+            | SwitchCall::Packet { port: number, .. }
+            | SwitchCall::Down(number),
+        ) => vec![number],
         Call::Reset | Call::Save(_) | Call::Restore(_) => Vec::new(),
     }
 }

@@ -1,252 +1,87 @@
 //! How often each kind of call, refusal and answer was met.
 
-use crate::call::{Call, Image, Room, KINDS};
-use crate::layout::{Layout, Mode};
+mod card;
+mod switch;
+
+use crate::call::Subject;
 use crate::pair::Made;
-use crate::wide;
-use crate::world::ROOM;
-use musgarento::{Packet, Packets};
 use std::collections::BTreeMap;
 
-/// The refusals that each kind of call can give, 0 for accepted, in the order
-/// of `KINDS`.
-const POSSIBLE: [&[u8]; 10] = [
-    &[0, 10, 11, 12, 13, 14, 15, 16, 17, 60],
-    &[0, 1, 3, 60],
-    &[0, 1, 3, 6, 60],
-    &[0, 1, 4, 5, 60],
-    &[0, 1, 4, 5, 6, 60],
-    &[0, 1, 2, 6, 60],
-    &[0, 1, 6, 60],
-    &[0, 1, 6, 60],
-    &[0, 1, 6, 60],
-    &[0, 17, 20, 21, 22, 60],
-];
-
-/// The same on a card with other flags than line and wire.
-const POSSIBLE_WITH_FLAGS: [&[u8]; 10] = [
-    &[0, 10, 11, 12, 13, 14, 15, 16, 17, 60],
-    &[1, 60],
-    &[1, 60],
-    &[1, 60],
-    &[1, 60],
-    &[1, 60],
-    &[1, 60],
-    &[1, 60],
-    &[1, 60],
-    &[0, 17, 20, 21, 22, 60],
-];
-
-/// Other things that a run should meet.
-const NAMED: [&str; 46] = [
-    "MSI 32-bit started",
-    "MSI 64-bit started",
-    "MSI 32-bit, masks started",
-    "MSI 64-bit, masks started",
-    "pin only started",
-    "MSI and MSI-X started",
-    "N = 0 started",
-    "N = 1 started",
-    "N = 63 started",
-    "N = 64 started",
-    "N = 65 started",
-    "N = 2048 started",
-    "other N started",
-    "MSI-X event sent",
-    "MSI-X event held",
-    "MSI-X event merged",
-    "MSI event sent",
-    "MSI event held",
-    "MSI event merged",
-    "pin event lost",
-    "message below 4 GiB",
-    "message above 4 GiB",
-    "Assert",
-    "Deassert",
-    "call with 1 packet",
-    "call with 2 to 31 packets",
-    "call with 32 to 2047 packets",
-    "call with 2048 packets or more",
-    "call with 40976 bytes of packets",
-    "wire packet before messages",
-    "exact output accepted",
-    "longer output accepted",
-    "output one byte short refused",
-    "own image restored",
-    "damaged image restored",
-    "foreign image restored",
-    "damaged image refused",
-    "E wider than 16 bits refused",
-    "requester wider than 16 bits refused",
-    "config width wider than 8 bits refused",
-    "config offset wider than 16 bits refused",
-    "BAR wider than 8 bits refused",
-    "BAR offset wider than 32 bits refused",
-    "BAR width wider than 8 bits refused",
-    "event wider than 16 bits refused",
-    "level 256, or a multiple of it, is high",
-];
-
-/// Numbers of calls, of each kind by refusal.
-type Refusals = [BTreeMap<u8, u64>; 10];
-
 /// The counts of a run.
-#[derive(Clone, Debug, Default)]
+#[derive(Clone, Debug)]
 pub struct Statistics {
     pub calls: u64,
     pub trials: u64,
-    refusals: Refusals,
-    /// Those on a card with other flags than line and wire.
-    with_flags: Refusals,
+    subject: Subject,
+    tables: Vec<Table>,
+    /// Other things that a run should meet.
+    names: &'static [&'static str],
     named: BTreeMap<&'static str, u64>,
 }
 
+/// Numbers of calls, of each kind by refusal.
+#[derive(Clone, Debug)]
+struct Table {
+    /// Which calls are counted, if not all.
+    which: &'static str,
+    kinds: &'static [&'static str],
+    /// The refusals that each kind of call can give.
+    possible: &'static [&'static [u8]],
+    refusals: Vec<BTreeMap<u8, u64>>,
+}
+
 impl Statistics {
+    /// No calls yet.
+    pub fn new(subject: Subject) -> Statistics {
+        let (tables, names) = match subject {
+            Subject::Card => (card::tables(), &card::NAMED[..]),
+            Subject::Switch => (switch::tables(), &switch::NAMED[..]),
+        };
+        Statistics {
+            calls: 0,
+            trials: 0,
+            subject,
+            tables,
+            names,
+            named: BTreeMap::new(),
+        }
+    }
+
     /// Counts a call.
     pub fn count(&mut self, made: &Made<'_>) {
-        let (kind, refusal) = (made.call.kind(), made.outcome.refusal);
         self.calls += 1;
-        *self.refusals[kind].entry(refusal).or_default() += 1;
-        if made.other_flags != 0 {
-            *self.with_flags[kind].entry(refusal).or_default() += 1;
-        }
-        let accepted = refusal == 0;
-        match made.call {
-            Call::Start(_) if accepted => self.count_start(&Layout::of_card(made.card)),
-            Call::Restore(image) => self.count_restore(image, accepted),
-            Call::Event(_) if accepted => self.count_event(made),
-            _ => {}
-        }
-        if made.call.has_output() {
-            self.count_output(made);
-        }
-        if let Some(name) = wide::met(made) {
-            self.met(name);
+        match self.subject {
+            Subject::Card => self.count_card(made),
+            Subject::Switch => self.count_switch(made),
         }
     }
 
     fn met(&mut self, name: &'static str) {
-        debug_assert!(NAMED.contains(&name), "{name}");
+        debug_assert!(self.names.contains(&name), "{name}");
         *self.named.entry(name).or_default() += 1;
-    }
-
-    fn count_start(&mut self, layout: &Layout) {
-        if let Some(msi) = layout.msi {
-            self.met(match (msi.is_64_bit(), msi.has_masks()) {
-                (false, false) => "MSI 32-bit started",
-                (true, false) => "MSI 64-bit started",
-                (false, true) => "MSI 32-bit, masks started",
-                (true, true) => "MSI 64-bit, masks started",
-            });
-        }
-        match (layout.msi, layout.msix) {
-            (None, None) => self.met("pin only started"),
-            (Some(_), Some(_)) => self.met("MSI and MSI-X started"),
-            _ => {}
-        }
-        self.met(match layout.vectors() {
-            0 => "N = 0 started",
-            1 => "N = 1 started",
-            63 => "N = 63 started",
-            64 => "N = 64 started",
-            65 => "N = 65 started",
-            2048 => "N = 2048 started",
-            _ => "other N started",
-        });
-    }
-
-    fn count_restore(&mut self, image: &Image, accepted: bool) {
-        match (image, accepted) {
-            (Image::Kept(_, damage), true) if damage.is_empty() => self.met("own image restored"),
-            (Image::Kept(..), true) => self.met("damaged image restored"),
-            (Image::Kept(..), false) => self.met("damaged image refused"),
-            (Image::Bytes(_), true) => self.met("foreign image restored"),
-            (Image::Bytes(_), false) => {}
-        }
-    }
-
-    fn count_event(&mut self, made: &Made<'_>) {
-        let mode = Layout::of_card(made.card).mode();
-        match (mode, made.outcome.answer) {
-            (Mode::MsiX, Some(1)) => self.met("MSI-X event sent"),
-            (Mode::MsiX, Some(2)) => self.met("MSI-X event held"),
-            (Mode::MsiX, Some(3)) => self.met("MSI-X event merged"),
-            (Mode::Msi, Some(1)) => self.met("MSI event sent"),
-            (Mode::Msi, Some(2)) => self.met("MSI event held"),
-            (Mode::Msi, Some(3)) => self.met("MSI event merged"),
-            (Mode::Pin, Some(4)) => self.met("pin event lost"),
-            _ => {}
-        }
-    }
-
-    fn count_output(&mut self, made: &Made<'_>) {
-        let count = made.outcome.count.unwrap_or(0);
-        match (made.outcome.refusal, made.room) {
-            (6, Room::Short) => self.met("output one byte short refused"),
-            (0, _) if count > 0 && made.out.len() == count => self.met("exact output accepted"),
-            (0, _) if count > 0 => self.met("longer output accepted"),
-            _ => {}
-        }
-        if !matches!(made.call, Call::Save(_)) {
-            self.count_packets(&made.out[..count]);
-        }
-    }
-
-    fn count_packets(&mut self, bytes: &[u8]) {
-        let mut wire = false;
-        let mut messages = 0;
-        for packet in Packets::new(bytes) {
-            match packet {
-                Packet::Message { address, .. } => {
-                    messages += 1;
-                    self.met(if address >> 32 == 0 {
-                        "message below 4 GiB"
-                    } else {
-                        "message above 4 GiB"
-                    });
-                }
-                Packet::Assert { .. } => {
-                    wire = true;
-                    self.met("Assert");
-                }
-                Packet::Deassert { .. } => {
-                    wire = true;
-                    self.met("Deassert");
-                }
-            }
-        }
-        if bytes.len() == ROOM {
-            self.met("call with 40976 bytes of packets");
-        }
-        if wire && messages > 0 {
-            self.met("wire packet before messages");
-        }
-        match messages + usize::from(wire) {
-            0 => {}
-            1 => self.met("call with 1 packet"),
-            2..=31 => self.met("call with 2 to 31 packets"),
-            32..=2047 => self.met("call with 32 to 2047 packets"),
-            _ => self.met("call with 2048 packets or more"),
-        }
     }
 
     /// The things that a run should meet and this one did not.
     pub fn not_met(&self) -> Vec<String> {
-        let mut missing = not_met_of("", &POSSIBLE, &self.refusals);
-        let which = " over other flags";
-        missing.extend(not_met_of(which, &POSSIBLE_WITH_FLAGS, &self.with_flags));
-        let unmet = NAMED.iter().filter(|name| !self.named.contains_key(*name));
+        let mut missing: Vec<String> = self.tables.iter().flat_map(Table::not_met).collect();
+        let unmet = self
+            .names
+            .iter()
+            .filter(|name| !self.named.contains_key(*name));
         missing.extend(unmet.map(|name| name.to_string()));
         missing
     }
 
     /// The counts as text.
     pub fn text(&self) -> String {
-        let mut text = format!("{} calls in {} trials\n\n", self.calls, self.trials);
-        text += &calls_text("Call", &self.refusals);
-        text += &calls_text("Call over other flags", &self.with_flags);
+        let subject = self.subject.name();
+        let (calls, trials) = (self.calls, self.trials);
+        let mut text = format!("{calls} {subject} calls in {trials} trials\n\n");
+        for table in &self.tables {
+            text += &table.text();
+        }
         text += "| Met | Times |\n|---|---:|\n";
-        for name in NAMED {
+        for name in self.names {
             let count = self.named.get(name).copied().unwrap_or(0);
             text += &format!("| {name} | {count} |\n");
         }
@@ -261,30 +96,51 @@ impl Statistics {
     }
 }
 
-/// The refusals that calls should meet and did not.
-fn not_met_of(which: &str, possible: &[&[u8]; 10], refusals: &Refusals) -> Vec<String> {
-    let mut missing = Vec::new();
-    for (kind, numbers) in possible.iter().enumerate() {
-        for number in *numbers {
-            if !refusals[kind].contains_key(number) {
-                missing.push(format!("{}{which} with {number}", KINDS[kind]));
-            }
+impl Table {
+    fn new(
+        which: &'static str,
+        kinds: &'static [&'static str],
+        possible: &'static [&'static [u8]],
+    ) -> Table {
+        Table {
+            which,
+            kinds,
+            possible,
+            refusals: vec![BTreeMap::new(); kinds.len()],
         }
     }
-    missing
-}
 
-/// Numbers of calls as a table.
-fn calls_text(title: &str, refusals: &Refusals) -> String {
-    let mut text = format!("| {title} | Accepted | Refused, by number |\n|---|---:|---|\n");
-    for (kind, name) in KINDS.iter().enumerate() {
-        let accepted = refusals[kind].get(&0).copied().unwrap_or(0);
-        let refused: Vec<String> = refusals[kind]
-            .iter()
-            .filter(|(&number, _)| number != 0)
-            .map(|(number, count)| format!("{number}: {count}"))
-            .collect();
-        text += &format!("| {name} | {accepted} | {} |\n", refused.join(", "));
+    fn count(&mut self, kind: usize, refusal: u8) {
+        *self.refusals[kind].entry(refusal).or_default() += 1;
     }
-    text + "\n"
+
+    /// The refusals that calls should meet and did not.
+    fn not_met(&self) -> Vec<String> {
+        let mut missing = Vec::new();
+        for (kind, numbers) in self.possible.iter().enumerate() {
+            for number in *numbers {
+                if !self.refusals[kind].contains_key(number) {
+                    let (name, which) = (self.kinds[kind], self.which);
+                    missing.push(format!("{name}{which} with {number}"));
+                }
+            }
+        }
+        missing
+    }
+
+    /// The numbers of calls as text.
+    fn text(&self) -> String {
+        let which = self.which;
+        let mut text = format!("| Call{which} | Accepted | Refused, by number |\n|---|---:|---|\n");
+        for (name, refusals) in self.kinds.iter().zip(&self.refusals) {
+            let accepted = refusals.get(&0).copied().unwrap_or(0);
+            let refused: Vec<String> = refusals
+                .iter()
+                .filter(|(&number, _)| number != 0)
+                .map(|(number, count)| format!("{number}: {count}"))
+                .collect();
+            text += &format!("| {name} | {accepted} | {} |\n", refused.join(", "));
+        }
+        text + "\n"
+    }
 }

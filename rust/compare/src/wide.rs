@@ -1,9 +1,10 @@
 //! Numbers that are wider than their fields, of which a cut to the field would
 //! leave one that the rule accepts.
 
-use crate::call::{Call, Given};
+use crate::call::{Call, Given, SwitchCall};
 use crate::layout::Layout;
 use crate::pair::Made;
+use crate::world::SWITCH_BYTES;
 
 /// The low bits of a number that is wider than this many.
 fn cut(number: u64, bits: u32) -> Option<u64> {
@@ -32,6 +33,13 @@ pub fn met(made: &Made<'_>) -> Option<&'static str> {
         (Call::Line(level), 0) => {
             let high = cut(*level, 8) == Some(0) && made.card[0] & 1 != 0;
             high.then_some("level 256, or a multiple of it, is high")
+        }
+        (Call::Switch(SwitchCall::Start(requester)), 60) => {
+            let wide = cut(*requester, 16).is_some() && made.switch.len() == SWITCH_BYTES;
+            wide.then_some("requester wider than 16 bits refused")
+        }
+        (Call::Switch(SwitchCall::Packet { port, .. } | SwitchCall::Down(port)), 50) => {
+            of_port(*port)
         }
         _ => None,
     }
@@ -64,6 +72,16 @@ fn of_bar(card: &[u8], bar: u64, offset: u64, width: u64) -> Option<&'static str
             in_table.then_some("BAR offset wider than 32 bits refused")
         }
         (_, _, Some(4 | 8)) => Some("BAR width wider than 8 bits refused"),
+        _ => None,
+    }
+}
+
+/// By the widest field that a cut to would leave one of the eight ports.
+fn of_port(port: u64) -> Option<&'static str> {
+    match (cut(port, 32), cut(port, 16), cut(port, 8)) {
+        (Some(0..=7), _, _) => Some("port wider than 32 bits refused"),
+        (_, Some(0..=7), _) => Some("port wider than 16 bits refused"),
+        (_, _, Some(0..=7)) => Some("port wider than 8 bits refused"),
         _ => None,
     }
 }

@@ -5,15 +5,23 @@ pub const CARD_BYTES: usize = 289;
 /// Where the card's bytes have the BAR sizes and the configuration.
 pub const SIZES_AT: usize = 9;
 pub const CONFIG_AT: usize = 33;
-/// The most bytes that one call writes.
+/// The most bytes that one call of a card writes.
 pub const ROOM: usize = 40_976;
+/// The bytes of a switch in the C interface; those of its ports are the last 8.
+pub const SWITCH_BYTES: usize = 10;
+pub const PORTS_AT: usize = 2;
+/// The most bytes that one call of a switch writes.
+pub const SWITCH_ROOM: usize = 64;
 
-/// Card, table, pending array and output, as one of the models left them.
+/// Card, table, pending array, switch and output, as one of the models left
+/// them. A trial has a card with its buffers or a switch; what it does not have
+/// is empty.
 #[derive(Clone, Debug, Default, PartialEq, Eq)]
 pub struct World {
     pub card: Vec<u8>,
     pub table: Vec<u8>,
     pub pending: Vec<u8>,
+    pub switch: Vec<u8>,
     pub out: Vec<u8>,
 }
 
@@ -23,7 +31,11 @@ pub enum Part {
     Card,
     Table,
     Pending,
+    Switch,
 }
+
+/// All parts.
+pub const PARTS: [Part; 4] = [Part::Card, Part::Table, Part::Pending, Part::Switch];
 
 impl Part {
     /// The name to print.
@@ -32,6 +44,17 @@ impl Part {
             Part::Card => "card",
             Part::Table => "table",
             Part::Pending => "pending array",
+            Part::Switch => "switch",
+        }
+    }
+
+    /// What is written at a byte of the part, for a person; empty for table and
+    /// pending array.
+    pub fn byte_name(self, at: usize) -> String {
+        match self {
+            Part::Card => card_byte_name(at),
+            Part::Switch => switch_byte_name(at),
+            Part::Table | Part::Pending => String::new(),
         }
     }
 }
@@ -43,6 +66,7 @@ impl World {
             Part::Card => &self.card,
             Part::Table => &self.table,
             Part::Pending => &self.pending,
+            Part::Switch => &self.switch,
         }
     }
 
@@ -52,6 +76,7 @@ impl World {
             Part::Card => &mut self.card,
             Part::Table => &mut self.table,
             Part::Pending => &mut self.pending,
+            Part::Switch => &mut self.switch,
         }
     }
 
@@ -69,8 +94,7 @@ pub fn other_flags(card: &[u8]) -> u8 {
     card.first().map_or(0, |flags| flags & !3)
 }
 
-/// What is written at a byte of the card, for a person.
-pub fn card_byte_name(at: usize) -> String {
+fn card_byte_name(at: usize) -> String {
     match at {
         0 => "flags".to_string(),
         1..=2 => "E".to_string(),
@@ -78,5 +102,12 @@ pub fn card_byte_name(at: usize) -> String {
         5..=8 => "MSI waiting bits".to_string(),
         SIZES_AT..CONFIG_AT => format!("size of BAR {}", (at - SIZES_AT) / 4),
         _ => format!("configuration byte {:02X}h", at - CONFIG_AT),
+    }
+}
+
+fn switch_byte_name(at: usize) -> String {
+    match at {
+        0..PORTS_AT => "requester".to_string(),
+        _ => format!("wires of port {}", at - PORTS_AT),
     }
 }

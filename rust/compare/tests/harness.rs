@@ -1,53 +1,17 @@
 //! The harness finds faults and cuts their trials down. The faulty models are
 //! the second model with one thing changed.
 
-use compare::call::{Call, Outcome, Step};
+mod common;
+
+use common::{last_call, shortest};
+use compare::call::{Call, Outcome, Subject};
 use compare::layout::{Layout, Mode};
-use compare::pair::{Model, Pair};
-use compare::print::trial_text;
-use compare::run::Runner;
 use compare::second;
-use compare::shrink::{alone, shrink};
 use compare::world::{other_flags, World};
-
-/// The shortest trial for a fault, found by random trials.
-fn shortest(model: Model<'_>) -> Vec<Step> {
-    let mut runner = Runner::new(model, &|_| ());
-    let failure = (0..1_000)
-        .find_map(|trial| runner.random_trial(1, trial).err())
-        .expect("the fault is found");
-    let steps = shrink(model, &failure.steps).expect("it comes again").steps;
-    assert!(differs(model, &steps));
-    let call = alone(model, &failure.steps).expect("the call alone");
-    assert!(call.steps.len() <= 4);
-    for left_out in 0..steps.len() {
-        let mut rest = steps.clone();
-        rest.remove(left_out);
-        assert!(!differs(model, &rest), "{}", trial_text(&steps));
-    }
-    steps
-}
-
-/// Whether the trial shows a difference.
-fn differs(model: Model<'_>, steps: &[Step]) -> bool {
-    let mut pair = Pair::new(model);
-    steps.iter().any(|step| pair.step(step).is_err())
-}
-
-/// The last call of a trial.
-fn last_call(steps: &[Step]) -> &Call {
-    match steps.last() {
-        Some(Step::Call(call, _)) => call,
-        other => panic!("{other:?}"),
-    }
-}
 
 #[test]
 fn no_fault() {
-    let mut runner = Runner::new(&second::apply, &|_| ());
-    for trial in 0..100 {
-        assert!(runner.random_trial(1, trial).is_ok());
-    }
+    common::no_fault(Subject::Card);
 }
 
 #[test]
@@ -61,9 +25,8 @@ fn data_of_another_form() {
         }
         outcome
     };
-    let steps = shortest(&model);
+    let steps = shortest(Subject::Card, &model);
     assert!(matches!(last_call(&steps), Call::Event(_)));
-    assert!(steps.len() <= 8, "{}", trial_text(&steps));
 }
 
 #[test]
@@ -77,9 +40,8 @@ fn waiting_bits_lost_at_a_mode_change() {
         }
         outcome
     };
-    let steps = shortest(&model);
+    let steps = shortest(Subject::Card, &model);
     assert!(matches!(last_call(&steps), Call::ConfigWrite { .. }));
-    assert!(steps.len() <= 8, "{}", trial_text(&steps));
 }
 
 #[test]
@@ -93,9 +55,8 @@ fn byte_behind_the_packets() {
         }
         outcome
     };
-    let steps = shortest(&model);
+    let steps = shortest(Subject::Card, &model);
     assert!(matches!(last_call(&steps), Call::Line(_)));
-    assert!(steps.len() <= 8, "{}", trial_text(&steps));
 }
 
 #[test]
@@ -107,9 +68,8 @@ fn value_beside_a_refusal() {
         }
         outcome
     };
-    let steps = shortest(&model);
+    let steps = shortest(Subject::Card, &model);
     assert!(matches!(last_call(&steps), Call::BarRead { .. }));
-    assert!(steps.len() <= 8, "{}", trial_text(&steps));
 }
 
 #[test]
@@ -123,9 +83,8 @@ fn refused_restore_changes_the_table() {
         }
         outcome
     };
-    let steps = shortest(&model);
+    let steps = shortest(Subject::Card, &model);
     assert!(matches!(last_call(&steps), Call::Restore(_)));
-    assert!(steps.len() <= 8, "{}", trial_text(&steps));
 }
 
 /// Cuts a number of a call to the bits of its field.
@@ -188,11 +147,10 @@ fn numbers_cut_to_their_fields() {
             cut(&mut call);
             second::apply(world, &call, image)
         };
-        let steps = shortest(&model);
+        let steps = shortest(Subject::Card, &model);
         let mut last = last_call(&steps).clone();
         cut(&mut last);
         assert_ne!(last, *last_call(&steps));
-        assert!(steps.len() <= 8, "{}", trial_text(&steps));
     }
 }
 
@@ -212,9 +170,8 @@ fn number_of_lengths_for_other_flags() {
         }
         outcome
     };
-    let steps = shortest(&model);
+    let steps = shortest(Subject::Card, &model);
     assert!(asks_for_a_sound_card(last_call(&steps)));
-    assert!(steps.len() <= 8, "{}", trial_text(&steps));
 }
 
 #[test]
@@ -229,9 +186,8 @@ fn other_flags_not_looked_at() {
         world.card[0] |= flags;
         outcome
     };
-    let steps = shortest(&model);
+    let steps = shortest(Subject::Card, &model);
     assert!(asks_for_a_sound_card(last_call(&steps)));
-    assert!(steps.len() <= 8, "{}", trial_text(&steps));
 }
 
 #[test]
@@ -243,9 +199,8 @@ fn refused_call_clears_other_flags() {
         }
         outcome
     };
-    let steps = shortest(&model);
+    let steps = shortest(Subject::Card, &model);
     assert!(asks_for_a_sound_card(last_call(&steps)));
-    assert!(steps.len() <= 8, "{}", trial_text(&steps));
 }
 
 #[test]
@@ -258,9 +213,8 @@ fn refused_restore_clears_other_flags() {
             }
             outcome
         };
-        let steps = shortest(&model);
+        let steps = shortest(Subject::Card, &model);
         assert!(matches!(last_call(&steps), Call::Restore(_)));
-        assert!(steps.len() <= 8, "{}", trial_text(&steps));
     }
 }
 
@@ -273,9 +227,8 @@ fn restore_over_other_flags_is_refused() {
             }
             second::apply(world, call, image)
         };
-        let steps = shortest(&model);
+        let steps = shortest(Subject::Card, &model);
         assert!(matches!(last_call(&steps), Call::Restore(_)));
-        assert!(steps.len() <= 8, "{}", trial_text(&steps));
     }
 }
 
@@ -289,7 +242,6 @@ fn accepted_restore_keeps_other_flags() {
         }
         outcome
     };
-    let steps = shortest(&model);
+    let steps = shortest(Subject::Card, &model);
     assert!(matches!(last_call(&steps), Call::Restore(_)));
-    assert!(steps.len() <= 8, "{}", trial_text(&steps));
 }

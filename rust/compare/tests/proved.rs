@@ -1,5 +1,7 @@
-//! A short comparison with the proved card, and what it meets.
+//! Short comparisons with the proved card and the proved switch, and what they
+//! meet.
 
+use compare::call::Subject;
 use compare::generate::start_steps;
 use compare::given::valid;
 use compare::pair::Pair;
@@ -12,9 +14,9 @@ use compare::{directed, proved, second};
 /// Random trials besides the directed ones.
 const TRIALS: u64 = 300;
 
-#[test]
-fn short_comparison() {
-    let mut runner = Runner::new(&proved::apply, &|_| ());
+/// The directed trials and some random ones.
+fn short_comparison(subject: Subject) {
+    let mut runner = Runner::new(subject, &proved::apply, &|_| ());
     let result = directed::run(&mut runner)
         .and_then(|()| (0..TRIALS).try_for_each(|trial| runner.random_trial(7, trial)));
     if let Err(failure) = result {
@@ -22,6 +24,16 @@ fn short_comparison() {
         panic!("{}{:#?}", trial_text(&found.steps), found.difference.0);
     }
     assert_eq!(runner.statistics.not_met(), Vec::<String>::new());
+}
+
+#[test]
+fn short_comparison_of_cards() {
+    short_comparison(Subject::Card);
+}
+
+#[test]
+fn short_comparison_of_switches() {
+    short_comparison(Subject::Switch);
 }
 
 #[test]

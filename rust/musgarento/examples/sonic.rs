@@ -30,11 +30,7 @@ fn show(done: &str, packets: Packets<'_>) {
     if packets.bytes().is_empty() {
         println!("    sends nothing");
     }
-    let mut rest = packets;
-    loop {
-        let before = rest.bytes();
-        let Some(packet) = rest.next() else { break };
-        let bytes = &before[..before.len() - rest.bytes().len()];
+    for (packet, bytes) in packets.clone().zip(packets.slices()) {
         let hex: Vec<String> = bytes.iter().map(|byte| format!("{byte:02X}")).collect();
         println!("    sends {packet}");
         println!("          {}", hex.join(" "));

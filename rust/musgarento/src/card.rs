@@ -7,7 +7,8 @@ use crate::layout::{
 use crate::packet::Packets;
 use crate::raw;
 use crate::refusal::{
-    BarError, ConfigError, EventError, ImageError, Refusal, RestoreError, StartError,
+    accepted, never_refused, BarError, ConfigError, EventError, ImageError, RestoreError,
+    StartError,
 };
 use crate::start::Start;
 use std::fmt;
@@ -95,32 +96,6 @@ impl fmt::Debug for Card {
             .field("msix_waiting", &waiting(&self.pending))
             .finish_non_exhaustive()
     }
-}
-
-/// The result that the number returned by a call stands for.
-fn accepted<E: TryFrom<Refusal>>(number: u8) -> Result<(), E> {
-    if number == 0 {
-        return Ok(());
-    }
-    let refusal = Refusal::from_number(number);
-    match refusal.and_then(|refusal| E::try_from(refusal).ok()) {
-        Some(error) => Err(error),
-        None => unexpected(number),
-    }
-}
-
-/// The same for a call that is never refused.
-fn never_refused(number: u8) {
-    if number != 0 {
-        unexpected(number);
-    }
-}
-
-/// A card of this crate is sound, its buffers fit and its output has room. The
-/// rules then give no other refusal than those in the error types.
-#[cold]
-fn unexpected(number: u8) -> ! {
-    panic!("refusal {number} of a card that cannot meet it");
 }
 
 impl Card {

@@ -8,14 +8,23 @@ use std::ops::Range;
 /// The bytes of a card in the C interface.
 pub const CARD_BYTES: usize = 289;
 
+/// The bytes of a switch in the C interface.
+pub const SWITCH_BYTES: usize = 10;
+
 /// Where the fields stand in a card's bytes.
 pub const EVENTS_AT: usize = 1;
 pub const REQUESTER_AT: usize = 3;
 pub const MSI_WAITING_AT: Range<usize> = 5..9;
 pub const COMMAND_AT: usize = 33 + 0x04;
 
-/// The most bytes of packets that one call makes.
+/// Where the ports' wires stand in a switch's bytes.
+pub const PORTS_AT: usize = 2;
+
+/// The most bytes of packets that one call of a card makes.
 pub const PACKET_BYTES: usize = 40_976;
+
+/// The most bytes of packets that one call of a switch sends upstream.
+pub const SWITCH_PACKET_BYTES: usize = 64;
 
 /// The length of the longest image.
 pub const IMAGE_BYTES: usize = 33_318;

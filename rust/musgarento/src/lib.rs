@@ -1,5 +1,6 @@
 //! A safe interface to the proved model of a PCIe card's interrupts: the pin
-//! (INTx), MSI and MSI-X of one endpoint function.
+//! (INTx), MSI and MSI-X of one endpoint function; and of a switch between such
+//! cards and the host.
 //!
 //! A [`Card`] is started from 256 configuration bytes and what else [`Start`]
 //! has, takes configuration and BAR accesses, device events and line levels,
@@ -22,10 +23,13 @@
 //! # Ok::<(), musgarento::StartError>(())
 //! ```
 //!
+//! A [`Switch`] has up to eight cards at its ports, takes what they send and
+//! gives what goes upstream.
+//!
 //! A call that can be refused has an error type with the refusals that it can
 //! meet, and no other: [`StartError`], [`ConfigError`], [`BarError`],
-//! [`EventError`], [`ImageError`], [`RestoreError`]. Line, reset and save are
-//! never refused. Each error converts into a [`Refusal`]:
+//! [`EventError`], [`ImageError`], [`RestoreError`], [`PortError`]. Line, reset
+//! and save are never refused. Each error converts into a [`Refusal`]:
 //!
 //! ```
 //! use musgarento::{Card, Refusal};
@@ -41,8 +45,8 @@
 //! host that has wider ones converts them with `try_from`, since `as` would cut
 //! them, or calls the functions of [`raw`], which take 64 bits.
 //!
-//! The model itself is the static library `capi`, proved in Rattle; this crate
-//! only lends it buffers and names its numbers.
+//! The model itself is the static libraries `capi` and `capi_switch`, proved in
+//! Rattle; this crate only lends them buffers and names their numbers.
 
 #![warn(missing_docs)]
 #![deny(unsafe_code)]
@@ -53,11 +57,13 @@ mod packet;
 pub mod raw;
 mod refusal;
 mod start;
+mod switch;
 
 pub use card::{Answer, Card, Event};
-pub use layout::{CARD_BYTES, IMAGE_BYTES, PACKET_BYTES};
+pub use layout::{CARD_BYTES, IMAGE_BYTES, PACKET_BYTES, SWITCH_BYTES, SWITCH_PACKET_BYTES};
 pub use packet::{Packet, Packets};
 pub use refusal::{
-    BarError, ConfigError, EventError, ImageError, Refusal, RestoreError, StartError,
+    BarError, ConfigError, EventError, ImageError, PortError, Refusal, RestoreError, StartError,
 };
 pub use start::Start;
+pub use switch::Switch;

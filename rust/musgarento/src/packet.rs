@@ -1,7 +1,7 @@
-//! The packets that a card sends.
+//! The packets that a card or a switch sends.
 
 use std::fmt;
-use std::iter::FusedIterator;
+use std::iter::{self, FusedIterator};
 
 /// A packet.
 #[derive(Clone, Copy, Debug, PartialEq, Eq, Hash)]
@@ -57,6 +57,19 @@ impl Packet {
         }
     }
 
+    /// The bytes of the packet, 16 or 20; `None` if the pin is not 1 to 4.
+    pub fn bytes(&self) -> Option<Vec<u8>> {
+        match *self {
+            Packet::Message {
+                requester,
+                address,
+                data,
+            } => Some(message_bytes(requester, address, data)),
+            Packet::Assert { requester, pin } => wire_bytes(requester, 0x1F, pin),
+            Packet::Deassert { requester, pin } => wire_bytes(requester, 0x23, pin),
+        }
+    }
+
     /// The requester ID.
     pub fn requester(&self) -> u16 {
         match *self {
@@ -99,6 +112,28 @@ fn wire(requester: u16, code: u8) -> Option<Packet> {
     }
 }
 
+/// The bytes of a message.
+fn message_bytes(requester: u16, address: u64, data: u32) -> Vec<u8> {
+    let [a, b] = requester.to_be_bytes();
+    let address = address.to_be_bytes();
+    let (first, address) = match address {
+        [0, 0, 0, 0, ..] => (0x40, &address[4..]),
+        _ => (0x60, &address[..]),
+    };
+    let head = [first, 0, 0, 1, a, b, 0, 0x0F];
+    [&head[..], address, &data.to_le_bytes()].concat()
+}
+
+/// The bytes of a wire packet, whose code is `base` + pin.
+fn wire_bytes(requester: u16, base: u8, pin: u8) -> Option<Vec<u8>> {
+    if !(1..=4).contains(&pin) {
+        return None;
+    }
+    let [a, b] = requester.to_be_bytes();
+    let head = [0x34, 0, 0, 0, a, b, 0, base + pin];
+    Some([head, [0; 8]].concat())
+}
+
 impl fmt::Display for Packet {
     fn fmt(&self, f: &mut fmt::Formatter<'_>) -> fmt::Result {
         let from = self.requester();
@@ -117,8 +152,8 @@ impl fmt::Display for Packet {
 
 /// The packets that stand one after another in some bytes.
 ///
-/// The iterator ends at the first bytes that are no packet; in a card's output
-/// that is its end.
+/// The iterator ends at the first bytes that are no packet; in what a card or a
+/// switch sends that is its end.
 #[derive(Clone, Debug)]
 pub struct Packets<'a> {
     bytes: &'a [u8],
@@ -133,6 +168,16 @@ impl<'a> Packets<'a> {
     /// The bytes of the packets that are still to come.
     pub fn bytes(&self) -> &'a [u8] {
         self.bytes
+    }
+
+    /// The bytes of each packet that is still to come, as a
+    /// [`Switch`](crate::Switch) takes them.
+    pub fn slices(mut self) -> impl Iterator<Item = &'a [u8]> {
+        iter::from_fn(move || {
+            let bytes = self.bytes;
+            self.next()?;
+            Some(&bytes[..bytes.len() - self.bytes.len()])
+        })
     }
 }
 
@@ -179,6 +224,63 @@ mod tests {
             message(0x1_FEE0_1000, 0x31),
         ];
         assert_eq!(packets, expected);
+    }
+
+    #[test]
+    fn bytes_of_each_packet() {
+        let bytes = [&WIRE[..], &SHORT, &LONG].concat();
+        let slices: Vec<&[u8]> = Packets::new(&bytes).slices().collect();
+        assert_eq!(slices, [&WIRE[..], &SHORT, &LONG]);
+        let mut rest = Packets::new(&bytes);
+        rest.next();
+        assert_eq!(rest.slices().next(), Some(&SHORT[..]));
+        let cut = Packets::new(&bytes[..bytes.len() - 1]);
+        assert_eq!(cut.slices().count(), 2);
+    }
+
+    #[test]
+    fn what_is_read_is_written() {
+        for bytes in [&SHORT[..], &LONG, &WIRE] {
+            let (packet, rest) = Packet::read(bytes).unwrap();
+            assert!(rest.is_empty());
+            assert_eq!(packet.bytes().as_deref(), Some(bytes));
+        }
+        for code in 0x20..=0x27 {
+            let mut bytes = WIRE;
+            bytes[7] = code;
+            let packet = Packet::read(&bytes).unwrap().0;
+            assert_eq!(packet.bytes().as_deref(), Some(&bytes[..]));
+        }
+    }
+
+    #[test]
+    fn what_is_written_is_read() {
+        let wires = (1..=4).flat_map(|pin| {
+            let requester = 0x12FD;
+            [
+                Packet::Assert { requester, pin },
+                Packet::Deassert { requester, pin },
+            ]
+        });
+        let addresses = [0, 4, 0xFFFF_FFFC, 1 << 32, 1 << 63, !3];
+        let messages = addresses.map(|address| Packet::Message {
+            requester: 0xFE01,
+            address,
+            data: 0x8765_4321,
+        });
+        for packet in wires.chain(messages) {
+            let bytes = packet.bytes().unwrap();
+            assert_eq!(Packet::read(&bytes), Some((packet, &[][..])));
+        }
+    }
+
+    #[test]
+    fn pins_that_no_packet_has() {
+        let requester = 0;
+        for pin in [0, 5, 0x20, 0xFF] {
+            assert_eq!(Packet::Assert { requester, pin }.bytes(), None);
+            assert_eq!(Packet::Deassert { requester, pin }.bytes(), None);
+        }
     }
 
     #[test]

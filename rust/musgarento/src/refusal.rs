@@ -14,10 +14,11 @@ macro_rules! refusals {
 
         /// All refusals, by their numbers.
         ///
-        /// The methods of [`Card`](crate::Card) have smaller error types, which
-        /// name only what can occur. Each of them converts into a `Refusal`, so
-        /// that `?` brings calls of several kinds together. The functions of
-        /// [`raw`](crate::raw) return the number alone.
+        /// The methods of [`Card`](crate::Card) and [`Switch`](crate::Switch)
+        /// have smaller error types, which name only what can occur. Each of
+        /// them converts into a `Refusal`, so that `?` brings calls of several
+        /// kinds together. The functions of [`raw`](crate::raw) return the
+        /// number alone.
         ///
         /// A refused call changes nothing.
         #[derive(Clone, Copy, Debug, PartialEq, Eq, Hash)]
@@ -59,7 +60,8 @@ refusals! {
     Mark = 20, "image under 294 bytes or wrong mark";
     Version = 21, "version not 1";
     Image = 22, "any other image that no sound card saves";
-    Lengths = 60, "card, configuration or sizes of another length than 289, 256 and 6";
+    PortPacket = 50, "port above 7, bytes that are no single packet, or a wire packet with a device number other than 0";
+    Lengths = 60, "card, configuration, sizes or switch of another length than 289, 256, 6 and 10, or bytes or requester that no switch has";
 }
 
 impl Refusal {
@@ -144,6 +146,34 @@ errors! {
     /// Why a card was not restored: of the image, or of the card, which has
     /// another number of vectors.
     RestoreError: Mark, Version, Image, Buffers;
+    /// Why a switch refused a packet, or a port's going down.
+    PortError: PortPacket;
+}
+
+/// The result that the number returned by a call stands for.
+pub(crate) fn accepted<E: TryFrom<Refusal>>(number: u8) -> Result<(), E> {
+    if number == 0 {
+        return Ok(());
+    }
+    let refusal = Refusal::from_number(number);
+    match refusal.and_then(|refusal| E::try_from(refusal).ok()) {
+        Some(error) => Err(error),
+        None => unexpected(number),
+    }
+}
+
+/// The same for a call that is never refused.
+pub(crate) fn never_refused(number: u8) {
+    if number != 0 {
+        unexpected(number);
+    }
+}
+
+/// A card or switch of this crate is sound, its buffers fit and its output has
+/// room. The rules then give no other refusal than those in the error types.
+#[cold]
+fn unexpected(number: u8) -> ! {
+    panic!("refusal {number} of a call that cannot meet it");
 }
 
 #[cfg(test)]
@@ -160,7 +190,7 @@ mod tests {
             .collect();
         assert_eq!(
             numbers,
-            [1, 2, 3, 4, 5, 6, 10, 11, 12, 13, 14, 15, 16, 17, 20, 21, 22, 60]
+            [1, 2, 3, 4, 5, 6, 10, 11, 12, 13, 14, 15, 16, 17, 20, 21, 22, 50, 60]
         );
     }
 
@@ -179,6 +209,7 @@ mod tests {
         assert_eq!(numbers(EventError::number), [2]);
         assert_eq!(numbers(ImageError::number), [20, 21, 22]);
         assert_eq!(numbers(RestoreError::number), [17, 20, 21, 22]);
+        assert_eq!(numbers(PortError::number), [50]);
     }
 
     #[test]

@@ -2,7 +2,10 @@
 //!
 //! Each rule stands beside the sentence of document 01 that it follows,
 //! marked `01:`. Doubts about the wording are listed in `READINGS.md`. A rule
-//! that the C interface adds to document 01 is marked `C interface:`.
+//! that the C interface adds is marked `C interface:`.
+//!
+//! [`switch`] is a model of request 4 of document 02, a switch between cards
+//! and host; a sentence of that document is marked `02:`.
 //!
 //! Numbers that a caller hands in may be wider than their fields, and each rule
 //! is applied to the whole number.
@@ -18,6 +21,7 @@ mod registers;
 mod settle;
 mod shape;
 mod sound;
+pub mod switch;
 mod table;
 mod vectors;
 
