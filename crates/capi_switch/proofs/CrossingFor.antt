@@ -17,7 +17,7 @@ use Rattle.switch.specs.declared.outcome.Outcome.{Outcome}
 use Rattle.switch.specs.Switches.{fresh}
 use Rattle.switch.specs.Calls.{SwitchCall, outputOf, switchStep}
 use Rattle.switch.specs.Outcomes.{after}
-use Rattle.capi_switch.specs.Crossing.{switchBytes, switchIn, portsClean, isSwitch, handed, back, crossed, started}
+use Rattle.capi_switch.specs.Crossing.{switchBytes, switchIn, portsClean, isSwitch, handed, switchOver, back, crossed, started}
 
 -- ---- bytes that a switch has
 
@@ -71,6 +71,14 @@ written-over l new l′ n s h e w =
     let size : length new ≡ 10 = ap length e ∙ switch-ten s in
     w .bytes ∙ ap (λ (t : List ℕ). new ++ t) (drop-of-length-le l {i = length new} (omega (arith, h, size))) ∙ append-nil new ∙ e
 
+-- ---- the bytes of an outcome
+
+pub stays : (n m : ℕ) (l : List ℕ) (s : Switch) → n ≡ m → (n ≡ 0 → ⊥) → l ≡ switchOver m l s
+stays n m l s e h = rw (← e, ne-eqb n 0 h)
+
+pub goes : (n m : ℕ) (l l′ : List ℕ) (s : Switch) → n ≡ m → n ≡ 0 → l′ ≡ switchBytes s → l′ ≡ switchOver m l s
+goes n m l l′ s e h q = rw (← e, h) q
+
 -- ---- a call
 
 -- the bytes are no switch's
@@ -81,10 +89,11 @@ no-switch l c false e h = rw (← e)
 
 -- or the call on the switch that they hold gave the outcome r
 pub through : (l : List ℕ) (c : SwitchCall) (held : Switch) (r : Outcome) (l′ out′ : List ℕ) (n : ℕ) → isSwitch l ≡ true → held ≡ switchIn l
-    → after r out′ ≡ switchStep held c → n ≡ refusalOf (r .answer) → l′ ≡ switchBytes (r .switch) → handed n l′ out′ (r .count) ≡ crossed l c
+    → after r out′ ≡ switchStep held c → n ≡ refusalOf (r .answer) → l′ ≡ switchOver (refusalOf (r .answer)) l (r .switch)
+    → handed n l′ out′ (r .count) ≡ crossed l c
 unfolding crossed
 through l c held r l′ out′ n e d q en el =
-    (λ i. handed (en i) (el i) out′ (r .count)) ∙ ap back (q ∙ ap (λ (s : Switch). switchStep s c) d) ∙ rw e
+    (λ i. handed (en i) (el i) out′ (r .count)) ∙ ap (back l) (q ∙ ap (λ (s : Switch). switchStep s c) d) ∙ rw e
 
 -- ---- a start
 

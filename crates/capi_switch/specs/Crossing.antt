@@ -48,12 +48,17 @@ pub record Crossed : Type 0 where
 abbrev pub handed : (refusal : ℕ) (switch output : List ℕ) (count : ℕ) → Crossed
 handed refusal switch output count = record { refusal = refusal; switch = switch; output = output; count = count }
 
-abbrev pub back : Switched → Crossed
-back r = handed (refusalOf (r .answer)) (switchBytes (r .switch)) (r .output) (r .count)
+-- the bytes of a switch over those of the switch before it, which stay beside a refusal
+abbrev pub switchOver : (refusal : ℕ) → List ℕ → Switch → List ℕ
+switchOver refusal bytes s = cond (eqb refusal 0) (switchBytes s) bytes
+
+-- an outcome with its switch as bytes and its answer as a number
+abbrev pub back : List ℕ → Switched → Crossed
+back bytes r = handed (refusalOf (r .answer)) (switchOver (refusalOf (r .answer)) bytes (r .switch)) (r .output) (r .count)
 
 -- a packet or a going down: 60 where the bytes are no switch's, and nothing changes; else the call on the switch that they hold
 unfoldable pub crossed : (bytes : List ℕ) → SwitchCall → Crossed
-crossed bytes c = cond (isSwitch bytes) (back (switchStep (switchIn bytes) c)) (handed 60 bytes (outputOf c) 0)
+crossed bytes c = cond (isSwitch bytes) (back bytes (switchStep (switchIn bytes) c)) (handed 60 bytes (outputOf c) 0)
 
 -- a start: 60 where there are not 10 bytes, or the requester ID has more than 16 bits; of what the bytes were it asks nothing
 unfoldable pub started : (bytes : List ℕ) → (requester : ℕ) → Crossed

@@ -5,7 +5,7 @@ ghost use lib.ListN.{length};
 ghost use Rattle.words.specs.Bits.{ofBool};
 ghost use Rattle.model.specs.Answers.{refusalOf};
 ghost use Rattle.switch.specs.Switches.{portOf};
-ghost use Rattle.capi_switch.specs.Crossing.{portByte, switchBytes, wiresIn, switchIn, isSwitch, portsClean};
+ghost use Rattle.capi_switch.specs.Crossing.{portByte, switchBytes, wiresIn, switchIn, isSwitch, portsClean, switchOver};
 use model::Answer;
 use switch::Port;
 use switch::Switch;
@@ -126,12 +126,16 @@ fn number_of(answer: Answer) -> u8
     }
 }
 
-// Writes the switch of an outcome, and gives the number of its refusal.
+// Writes the switch of an accepted outcome, and gives the number of its refusal, or 0; a refused one leaves the bytes.
 pub fn hand_back(bytes: &mut [u8], outcome: Outcome) -> u8
     requires { ⌜ length (now bytes) ≡ 10 ⌝ }
-    ensures { λ r. ⌜ (r ≡ refusalOf (outcome .answer)) × (now (bytes .exit) ≡ switchBytes (outcome .switch)) ⌝ }
+    ensures { λ r. ⌜ (r ≡ refusalOf (outcome .answer)) × (now (bytes .exit) ≡ switchOver (refusalOf (outcome .answer)) (now (bytes .entry)) (outcome .switch)) ⌝ }
 {
     let answer = outcome.answer;
+    let number = number_of(answer);
+    if number != 0 {
+        return number;
+    }
     put_switch(bytes, outcome.switch);
-    number_of(answer)
+    0
 }
