@@ -1,3 +1,4 @@
+pub mod Examples
 pub mod PortWire
 pub mod HostAgrees
 pub mod Refusals

@@ -4,3 +4,4 @@ pub mod History
 pub mod Claims
 pub mod Joined
 pub mod Outcomes
+pub mod Examples
