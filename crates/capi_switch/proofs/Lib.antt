@@ -1,1 +1,2 @@
+pub mod BytesExact
 pub mod CrossingFor
