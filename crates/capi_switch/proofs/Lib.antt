@@ -1,2 +1,3 @@
 pub mod BytesExact
 pub mod CrossingFor
+pub mod Refused
