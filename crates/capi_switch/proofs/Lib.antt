@@ -1,3 +1,4 @@
 pub mod BytesExact
 pub mod CrossingFor
+pub mod HostStep
 pub mod Refused
