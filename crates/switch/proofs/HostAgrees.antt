@@ -42,14 +42,14 @@ new-level false true = refl
 new-level false false = refl
 
 -- what a call sends, by what the host has heard before it and after it
-abbrev SentBy : (requester : ℕ) → SwitchEntry → SwitchPast → Type 0
+abbrev pub SentBy : (requester : ℕ) → SwitchEntry → SwitchPast → Type 0
 SentBy requester x before =
     x .bytes ≡ cond (isAccepted (x .answer)) (forwardedBy (x .call) ++ changes requester (λ q. heard q before) (λ q. heard q (x ∷ before))) []
 
 -- a switch and a past that agree
-record Agree (requester : ℕ) (s : Switch) (past : SwitchPast) : Type 0 where
-  own : s .requester ≡ requester
-  hears : (q : ℕ) → 1 ≤ q → q ≤ 4 → heard q past ≡ upstream s q
+pub record Agree (requester : ℕ) (s : Switch) (past : SwitchPast) : Type 0 where
+  pub own : s .requester ≡ requester
+  pub hears : (q : ℕ) → 1 ≤ q → q ≤ 4 → heard q past ≡ upstream s q
 
 module _ (requester : ℕ) (s : Switch) (c : SwitchCall) (past : SwitchPast) (a : Agree requester s past) where
   heard-accepted : (q : ℕ) → 1 ≤ q → q ≤ 4 → heard q (record { call = c; answer = Done; bytes = sends s c } ∷ past) ≡ upstream (nextSwitch s c) q
@@ -59,11 +59,11 @@ module _ (requester : ℕ) (s : Switch) (c : SwitchCall) (past : SwitchPast) (a 
       ∙ ap (λ (b : Bool). cond (Bool·beq (upstream s q) (upstream (nextSwitch s c) q)) b (upstream (nextSwitch s c) q)) (a .hears q first last)
       ∙ new-level (upstream s q) (upstream (nextSwitch s c) q)
 
-  heard-refused : (q n : ℕ) → heard q (record { call = c; answer = Refused n; bytes = [] } ∷ past) ≡ heard q past
+  pub heard-refused : (q n : ℕ) → heard q (record { call = c; answer = Refused n; bytes = [] } ∷ past) ≡ heard q past
   unfolding heard
   heard-refused q n = says-nothing q 0 (le-refl _) (heard q past)
 
-  heard-step : (q : ℕ) → 1 ≤ q → q ≤ 4 → heard q (entryOf c (switchStep s c) ∷ past) ≡ upstream (switchStep s c .switch) q
+  pub heard-step : (q : ℕ) → 1 ≤ q → q ≤ 4 → heard q (entryOf c (switchStep s c) ∷ past) ≡ upstream (switchStep s c .switch) q
   heard-step q first last = by-test (eqb (refusal s c) 0) (λ z. done (eqb-true (refusal s c) 0 z)) stopped
     where
       done : refusal s c ≡ 0 → heard q (entryOf c (switchStep s c) ∷ past) ≡ upstream (switchStep s c .switch) q
@@ -76,7 +76,7 @@ module _ (requester : ℕ) (s : Switch) (c : SwitchCall) (past : SwitchPast) (a 
           ap (λ (x : SwitchEntry). heard q (x ∷ past)) (entry-refused s c z) ∙ heard-refused q (refusal s c) ∙ a .hears q first last
           ∙ sym (ap (λ (r : Switched). upstream (r .switch) q) (step-refused s c z))
 
-  sent-step : SentBy requester (entryOf c (switchStep s c)) past
+  pub sent-step : SentBy requester (entryOf c (switchStep s c)) past
   unfolding sends isAccepted
   sent-step =
       by-test (eqb (refusal s c) 0)

@@ -60,11 +60,11 @@ kept-bit true = refl
 kept-bit false = refl
 
 -- an Assert of the wire
-abbrev made : (k p : ℕ) → SwitchEntry → SwitchPast → Bool
+abbrev pub made : (k p : ℕ) → SwitchEntry → SwitchPast → Bool
 made k p x before = assertFor k p x
 
 -- any packet for it, or its port gone down
-abbrev cleared : (k p : ℕ) → SwitchEntry → SwitchPast → Bool
+abbrev pub cleared : (k p : ℕ) → SwitchEntry → SwitchPast → Bool
 cleared k p x before = packetFor k p x || wentDown k x
 
 abbrev LawOf : (k p : ℕ) → SwitchRun → SwitchRun → Type 0
@@ -72,7 +72,7 @@ LawOf k p = Law switchCalled (λ r. r .past) (λ r. level (r .switch) k p) (λ r
 
 module _ (k p : ℕ) (first : 1 ≤ p) where
   -- the level after a call by its entry
-  level-step : (s : Switch) (c : SwitchCall) → Shaped s
+  pub level-step : (s : Switch) (c : SwitchCall) → Shaped s
       → let x : SwitchEntry = entryOf c (switchStep s c) in
       level (switchStep s c .switch) k p ≡ bitAfter (assertFor k p x) (level s k p) (packetFor k p x || wentDown k x)
   unfolding assertFor packetFor wentDown isAccepted
