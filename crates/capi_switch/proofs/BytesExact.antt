@@ -7,7 +7,7 @@ use native.Mathlib.Omega.{arith}
 use lib.Dec.{ltb, eqb}
 use lib.ListN.{length, drop, getD, length-map, length-drop, take-append-drop}
 use lib.Seq.{ext-getD, getD-append-add, getD-drop}
-use borrow.Author.Tests.{eqb-true, ltb-true, lt-ltb}
+use borrow.Author.Tests.{eq-eqb, eqb-true, ltb-true, lt-ltb}
 use Rattle.words.specs.Lists.{count, all}
 use Rattle.words.specs.Bits.{bit, ofBool}
 use Rattle.words.specs.Bytes.{byte, number, part, word16, bytesOf, Bytes}
@@ -22,7 +22,7 @@ use Rattle.switch.specs.Switches.{portOf, switchOf, idle, wiresOf, wireOf, leve
 use Rattle.switch.specs.Claims.{Shaped}
 use Rattle.capi_switch.specs.Crossing.{portByte, switchBytes, wiresIn, switchIn, portsClean, isSwitch}
 use Rattle.capi_switch.specs.Hosts.{wireBit}
-use Rattle.capi_switch.proofs.CrossingFor.{switch-length}
+use Rattle.capi_switch.proofs.CrossingFor.{switch-length, switch-ten}
 
 -- a list is given by its elements
 listed : {A : Type 0} (f : ℕ → A) (d : A) (l : List A) (n : ℕ) → length l ≡ n → ((k : ℕ) → k < n → f k ≡ getD l k d) → map f (count 0 n) ≡ l
@@ -103,15 +103,11 @@ switch-reads s h w =
     λ k j. ap (λ (b : ℕ). portOf (wiresIn b)) (byte-at s k j) ∙ ap portOf (wires-read (wiresOf s k) (h .wires k)) in
     λ i. switchOf (requester-read s w i) (listed read idle (s .ports) 8 (h .ports) port i)
 
-ten : (s : Switch) → eqb (length (switchBytes s)) 10 ≡ true
-unfolding switchBytes bytesOf count
-ten s = refl
-
 -- The bytes that are written of a switch are a switch's: 10, and no port has more than four wires
 pub switch-clean : (s : Switch) → isSwitch (switchBytes s) ≡ true
 unfolding isSwitch portsClean
 switch-clean s =
-    and-intro (eqb (length (switchBytes s)) 10) (portsClean (switchBytes s)) (ten s)
+    and-intro (eqb (length (switchBytes s)) 10) (portsClean (switchBytes s)) (eq-eqb (length (switchBytes s)) 10 (switch-ten s))
     (holds-all (λ k. ltb (byte (switchBytes s) (2 + k)) 16) (count 0 8)
     (λ k m.
     let h : k < 8 = omega (arith, member-count 0 8 k m .1) in

@@ -62,7 +62,7 @@ switch-length l e = eqb-true (length l) 10 (both (eqb (length l) 10) (portsClean
 
 -- ---- a switch written over the one before it
 
-switch-ten : (s : Switch) → length (switchBytes s) ≡ 10
+pub switch-ten : (s : Switch) → length (switchBytes s) ≡ 10
 unfolding switchBytes bytesOf count
 switch-ten s = refl
 

@@ -4,7 +4,10 @@ use mathlib.Core.Path.{_≡_, refl, sym, ap, _∙_}
 use mathlib.Core.Bool.{Bool, true, false, cond, _||_}
 use mathlib.Core.List.{List, [], _∷_, _++_}
 use mathlib.Core.Logic.{_↔_}
-use Prim.Native.Nat.{ℕ, _^_, _≤_, _<_}
+use Prim.Native.Nat.{ℕ, _+_, _-_, _^_, _≤_, _<_}
+use native.Mathlib.Omega.{arith}
+use lib.ListN.{List·getD-append}
+use Rattle.words.specs.Bits.{bit}
 use Rattle.words.proofs.BoolLaws.{neither, or-intro}
 use Rattle.model.specs.Answers.{isAccepted}
 use Rattle.model.specs.Since.{Every}
@@ -15,41 +18,37 @@ use Rattle.switch.specs.Switches.{fresh, level, upstream}
 use Rattle.switch.specs.Calls.{SwitchCall, changes, forwardedBy, switchStep}
 use Rattle.switch.specs.History.{SwitchEntry, entryOf, SwitchPast, packetFor, assertFor, wentDown, ActiveBy, DrivenBy, heard}
 use Rattle.switch.specs.Claims.{Shaped}
-use Rattle.switch.proofs.SwitchLaws.{shaped-fresh, level-fresh, upstream-fresh, upstream-elim, upstream-active}
+use Rattle.switch.proofs.SwitchLaws.{shaped-fresh, level-fresh, upstream-fresh}
 use Rattle.switch.proofs.StepLaws.{shaped-kept, requester-kept}
 use Rattle.switch.proofs.PortWire.{made, cleared, level-step}
-use Rattle.switch.proofs.HostAgrees.{SentBy, Agree, heard-refused, heard-step, sent-step}
+use Rattle.switch.proofs.HostAgrees.{SentBy, Agree, heard-refused, heard-step, sent-step, driven-by}
 use Rattle.capi_switch.specs.Crossing.{switchBytes, started}
 use Rattle.capi_switch.specs.Hosts.{Lent, HostRun, hostCalled, hostRun, wireBit}
+use Rattle.capi_switch.proofs.CrossingFor.{switch-ten}
 use Rattle.capi_switch.proofs.BytesExact.{switch-bits}
 use Rattle.capi_switch.proofs.Refused.{started-exact, start-leaves}
 use Rattle.capi_switch.proofs.HostStep.{entered, refusedEntry, host-elim}
 
--- a wire by the bytes that are held of a switch
-held-level : (l : List ℕ) (s : Switch) → l ≡ switchBytes s → (k p : ℕ) → k < 8 → 1 ≤ p → p ≤ 4 → wireBit l k p ≡ level s k p
-held-level l s e k p port first last = ap (λ (l : List ℕ). wireBit l k p) e ∙ switch-bits s k p port first last
-
--- the upstream wires of a switch whose wires are active as a past says
-driven-by : (s : Switch) (past : SwitchPast) → ((k p : ℕ) → k < 8 → 1 ≤ p → p ≤ 4 → (level s k p ≡ true) ↔ ActiveBy k p past)
-    → (q : ℕ) → (upstream s q ≡ true) ↔ DrivenBy q past
-driven-by s past wire q = (
-  upstream-elim s q
-      (λ k p a b c m on. record { port = k; pin = p; isPort = a; first = b; last = c; mapped = m; active = wire k p a b c .0 on }),
-  λ d. upstream-active s q (d .port) (d .pin) (d .isPort) (d .first) (d .last) (d .mapped) (wire (d .port) (d .pin) (d .isPort) (d .first) (d .last) .1 (d .active)),
-)
+-- a wire by the bytes that are held of a switch, and others behind them
+held-level : (l : List ℕ) (s : Switch) (rest : List ℕ) → l ≡ switchBytes s ++ rest → (k p : ℕ) → k < 8 → 1 ≤ p → p ≤ 4 → wireBit l k p ≡ level s k p
+unfolding wireBit
+held-level l s rest e k p port first last =
+    ap (λ (l : List ℕ). wireBit l k p) e
+    ∙ ap (λ (x : ℕ). bit x (p - 1)) (List·getD-append (switchBytes s) rest 0 (2 + k) (omega (arith, switch-ten s, port)))
+    ∙ switch-bits s k p port first last
 
 -- ---- what every call keeps
 
 -- the bytes are a switch's, which agrees with the past, and each call sent what it should
-record Good (requester : ℕ) (h : HostRun) : Type 0 where
+record Good (requester : ℕ) (rest : List ℕ) (h : HostRun) : Type 0 where
   switch : Switch
-  bytes : h .held ≡ switchBytes switch
+  bytes : h .held ≡ switchBytes switch ++ rest
   shaped : Shaped switch
   agree : Agree requester switch (h .past)
   sent : Every (SentBy requester) (h .past)
 
-module _ (requester : ℕ) (h : HostRun) (i : Good requester h) (c : SwitchCall) where
-  accepted-good : Good requester (entered h (switchBytes (switchStep (i .switch) c .switch)) (entryOf c (switchStep (i .switch) c)))
+module _ (requester : ℕ) (rest : List ℕ) (h : HostRun) (i : Good requester rest h) (c : SwitchCall) where
+  accepted-good : Good requester rest (entered h (switchBytes (switchStep (i .switch) c .switch) ++ rest) (entryOf c (switchStep (i .switch) c)))
   accepted-good =
       let s = i .switch in
       record {
@@ -60,7 +59,7 @@ module _ (requester : ℕ) (h : HostRun) (i : Good requester h) (c : SwitchCall)
         sent = every-cons (SentBy requester) (sent-step requester s c (h .past) (i .agree)) (i .sent);
       }
 
-  refused-good : (n : ℕ) → Good requester (entered h (h .held) (refusedEntry c n))
+  refused-good : (n : ℕ) → Good requester rest (entered h (h .held) (refusedEntry c n))
   unfolding isAccepted
   refused-good n = record {
     switch = i .switch;
@@ -76,46 +75,52 @@ module _ (requester : ℕ) (h : HostRun) (i : Good requester h) (c : SwitchCall)
 
 -- ---- one call
 
-module _ (requester : ℕ) (wide : requester < 2 ^ 16) where
-  good-kept : (h : HostRun) (x : Lent) → Good requester h → Good requester (hostCalled h x)
+module _ (requester : ℕ) (wide : requester < 2 ^ 16) (rest : List ℕ) where
+  good-kept : (h : HostRun) (x : Lent) → Good requester rest h → Good requester rest (hostCalled h x)
   good-kept h x i =
-      host-elim h (i .switch) (i .bytes) (i .shaped) (rw (i .agree .own) wide) x (Good requester)
-      (accepted-good requester h i (x .called)) (refused-good requester h i (x .called))
+      host-elim h (i .switch) rest (i .bytes) (i .shaped) (rw (i .agree .own) wide) x (Good requester rest)
+      (accepted-good requester rest h i (x .called)) (refused-good requester rest h i (x .called))
 
   module _ (k p : ℕ) (port : k < 8) (first : 1 ≤ p) (last : p ≤ 4) where
     abbrev LawOf : HostRun → HostRun → Type 0
-    LawOf = Law hostCalled (λ h. h .past) (λ h. wireBit (h .held) k p) (Good requester) (made k p) (cleared k p)
+    LawOf = Law hostCalled (λ h. h .past) (λ h. wireBit (h .held) k p) (Good requester rest) (made k p) (cleared k p)
 
-    call-law : (h : HostRun) (x : Lent) → Good requester h → LawOf h (hostCalled h x)
+    call-law : (h : HostRun) (x : Lent) → Good requester rest h → LawOf h (hostCalled h x)
     unfolding assertFor packetFor wentDown isAccepted
     call-law h x i =
         let s = i .switch in
         let c = x .called in
         let y = entryOf c (switchStep s c) in
-        host-elim h s (i .bytes) (i .shaped) (rw (i .agree .own) wide) x (LawOf h)
+        host-elim h s rest (i .bytes) (i .shaped) (rw (i .agree .own) wide) x (LawOf h)
         (record {
           entry = y;
           longer = refl;
-          good = accepted-good requester h i c;
+          good = accepted-good requester rest h i c;
           wait =
-              switch-bits (switchStep s c .switch) k p port first last
+              held-level (switchBytes (switchStep s c .switch) ++ rest) (switchStep s c .switch) rest refl k p port first last
               ∙ level-step k p first s c (i .shaped)
-              ∙ ap (λ (was : Bool). bitAfter (assertFor k p y) was (packetFor k p y || wentDown k y)) (sym (held-level (h .held) s (i .bytes) k p port first last));
+              ∙ ap (λ (was : Bool). bitAfter (assertFor k p y) was (packetFor k p y || wentDown k y)) (sym (held-level (h .held) s rest (i .bytes) k p port first last));
         })
-        (λ n. record { entry = refusedEntry c n; longer = refl; good = refused-good requester h i c n; wait = bit-stays (wireBit (h .held) k p) false refl })
+        (λ n. record { entry = refusedEntry c n; longer = refl; good = refused-good requester rest h i c n; wait = bit-stays (wireBit (h .held) k p) false refl })
 
 -- ---- every list of calls
 
--- an accepted start
-module _ (l : List ℕ) (requester : ℕ) (e : started l requester .refusal ≡ 0) where
-  abbrev first-run : HostRun
-  first-run = record { held = started l requester .switch; past = [] }
+-- an accepted start, and what a host holds behind the switch's bytes
+module _ (l : List ℕ) (requester : ℕ) (e : started l requester .refusal ≡ 0) (rest : List ℕ) where
+  abbrev begun : List ℕ
+  begun = started l requester .switch ++ rest
 
-  first-good : Good requester first-run
+  begins : begun ≡ switchBytes (fresh requester) ++ rest
+  begins = ap (λ (b : List ℕ). b ++ rest) (start-leaves l requester e)
+
+  abbrev first-run : HostRun
+  first-run = record { held = begun; past = [] }
+
+  first-good : Good requester rest first-run
   unfolding fresh heard
   first-good = record {
     switch = fresh requester;
-    bytes = start-leaves l requester e;
+    bytes = begins;
     shaped = shaped-fresh requester;
     agree = record { own = refl; hears = λ q first last. sym (upstream-fresh requester q) };
     sent = every-nil (SentBy requester);
@@ -124,39 +129,39 @@ module _ (l : List ℕ) (requester : ℕ) (e : started l requester .refusal ≡ 
   abbrev wide : requester < 2 ^ 16
   wide = started-exact l requester .0 e .1
 
-  all-good : (calls : List Lent) → Good requester (hostRun (started l requester .switch) calls)
+  all-good : (calls : List Lent) → Good requester rest (hostRun begun calls)
   unfolding hostRun
-  all-good calls = list-keeps hostCalled (Good requester) (good-kept requester wide) first-run calls first-good
+  all-good calls = list-keeps hostCalled (Good requester rest) (good-kept requester wide rest) first-run calls first-good
 
   -- "After any calls from a fresh switch, each given it as the last left it, a port's wire is active exactly if the last accepted packet for it was an
   -- Assert and the port has not gone down since": so say the bytes that a host holds, whatever it calls and lends
   pub host-wire : (calls : List Lent) (k p : ℕ) → k < 8 → 1 ≤ p → p ≤ 4
-      → let r : HostRun = hostRun (started l requester .switch) calls in
+      → let r : HostRun = hostRun (started l requester .switch ++ rest) calls in
       (wireBit (r .held) k p ≡ true) ↔ ActiveBy k p (r .past)
   unfolding hostRun
   host-wire calls k p port first last =
-      bit-iff hostCalled (λ h. h .past) (λ h. wireBit (h .held) k p) (Good requester) (made k p) (cleared k p)
+      bit-iff hostCalled (λ h. h .past) (λ h. wireBit (h .held) k p) (Good requester rest) (made k p) (cleared k p)
       (λ x before. (packetFor k p x ≡ false) × (wentDown k x ≡ false))
       (λ x before. (neither (packetFor k p x) (wentDown k x), λ b. or-intro (packetFor k p x) (wentDown k x) (b .0) (b .1)))
-      (call-law requester wide k p port first last) first-run first-good refl
-      (held-level (started l requester .switch) (fresh requester) (start-leaves l requester e) k p port first last ∙ level-fresh requester k p) calls
+      (call-law requester wide rest k p port first last) first-run first-good refl
+      (held-level begun (fresh requester) rest begins k p port first last ∙ level-fresh requester k p) calls
 
   -- "The upstream wire is active while any port's mapped wire is": a host has last been sent an Assert of an upstream pin exactly if some port's wire
   -- that becomes it is active: its last accepted packet was an Assert, and the port has not gone down since
   pub host-upstream : (calls : List Lent) (q : ℕ) → 1 ≤ q → q ≤ 4
-      → let r : HostRun = hostRun (started l requester .switch) calls in
+      → let r : HostRun = hostRun (started l requester .switch ++ rest) calls in
       (heard q (r .past) ≡ true) ↔ DrivenBy q (r .past)
   host-upstream calls q first last =
-      let r : HostRun = hostRun (started l requester .switch) calls in
-      let i : Good requester r = all-good calls in
+      let r : HostRun = hostRun (started l requester .switch ++ rest) calls in
+      let i : Good requester rest r = all-good calls in
       rw (i .agree .hears q first last)
       (driven-by (i .switch) (r .past)
-      (λ k p a b c. rw (← held-level (r .held) (i .switch) (i .bytes) k p a b c) (host-wire calls k p a b c)) q)
+      (λ k p a b c. rw (← held-level (r .held) (i .switch) rest (i .bytes) k p a b c) (host-wire calls k p a b c)) q)
 
   -- "Each change of that, and nothing else, sends a wire packet, with the switch's requester ID, function part 0": each call of a host from a start on,
   -- if it was accepted, sent the message write that it passed and the changes of what the host has heard, in upstream pin order; if refused, nothing
   pub host-changes : (calls : List Lent)
       → Every (λ (x : SwitchEntry) (before : SwitchPast).
       x .bytes ≡ cond (isAccepted (x .answer)) (forwardedBy (x .call) ++ changes requester (λ q. heard q before) (λ q. heard q (x ∷ before))) [])
-      (hostRun (started l requester .switch) calls .past)
+      (hostRun (started l requester .switch ++ rest) calls .past)
   host-changes calls = all-good calls .sent

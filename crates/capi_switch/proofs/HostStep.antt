@@ -1,13 +1,13 @@
--- One call of a host on the bytes of a switch: refused, it leaves every byte that the host holds and sends nothing; accepted, it was lent the whole
--- switch, and leaves the bytes of the next one. Assumes nothing.
+-- One call of a host that holds the bytes of a switch: refused, it leaves every byte that the host holds and sends nothing; accepted, it was lent the
+-- whole switch and no more, and leaves the bytes of the next one. Assumes nothing.
 use mathlib.Core.Path.{_≡_, sym, ap, _∙_, subst}
 use mathlib.Core.Bool.{true}
 use mathlib.Core.List.{List, [], _∷_, _++_, append-nil}
 use Prim.Native.Nat.{ℕ, _^_, _≤_, _<_}
 use native.Mathlib.Nat.{min-le-left}
 use native.Mathlib.Omega.{arith}
-use lib.ListN.{length, take, drop, length-take, take-append-drop, drop-of-length-le}
-use lib.Seq.{take-all}
+use lib.ListN.{length, take, drop, length-append, length-take, take-append-drop, drop-of-length-le}
+use lib.Seq.{take-all, take-at, drop-at}
 use borrow.Author.Tests.{ne-eqb}
 use Rattle.model.specs.declared.Answer.the-variants.{Refused}
 use Rattle.switch.specs.declared.Switch.{Switch}
@@ -17,15 +17,20 @@ use Rattle.switch.specs.Claims.{Shaped}
 use Rattle.switch.proofs.StepLaws.{step-accepted}
 use Rattle.capi_switch.specs.Crossing.{switchBytes, switchIn, isSwitch, Crossed}
 use Rattle.capi_switch.specs.Hosts.{Lent, left, answerOf, HostRun, hostCalled}
-use Rattle.capi_switch.proofs.CrossingFor.{switch-length}
-use Rattle.capi_switch.proofs.BytesExact.{switch-reads, switch-clean}
+use Rattle.capi_switch.proofs.CrossingFor.{switch-length, switch-ten}
+use Rattle.capi_switch.proofs.BytesExact.{switch-reads}
 use Rattle.capi_switch.proofs.Refused.{refusedWith, acceptedOn, call-elim}
 
--- a switch's bytes were lent, and a switch's bytes are held: the whole was lent, and nothing is left over
-lent-whole : (n : ℕ) (l : List ℕ) → isSwitch (take n l) ≡ true → length l ≡ 10 → (take n l ≡ l) × (drop n l ≡ [])
-lent-whole n l e ten =
-    let h : length l ≤ n = omega (arith, min-le-left n (length l), length-take n l, switch-length (take n l) e) in
-    (take-all n l h, drop-of-length-le l h)
+-- a switch's bytes were lent of what begins with a switch's bytes: those, and the rest was not
+lent-whole : (n : ℕ) (b rest : List ℕ) → isSwitch (take n (b ++ rest)) ≡ true → length b ≡ 10 → (take n (b ++ rest) ≡ b) × (drop n (b ++ rest) ≡ rest)
+lent-whole n b [] e ten =
+    let lent = length-take n (b ++ []) in
+    let h : length (b ++ []) ≤ n = omega (arith, min-le-left n (length (b ++ [])), lent, switch-length (take n (b ++ [])) e, length-append b [], ten) in
+    (take-all n (b ++ []) h ∙ append-nil b, drop-of-length-le (b ++ []) h)
+lent-whole n b (y ∷ rest) e ten =
+    let lent = length-take n (b ++ y ∷ rest) in
+    let ten′ : length b ≡ n = omega (arith, lent, switch-length (take n (b ++ y ∷ rest)) e, length-append b (y ∷ rest), ten) in
+    (take-at b (y ∷ rest) n ten′, drop-at b (y ∷ rest) n ten′)
 
 -- a host with other bytes and one entry more
 abbrev pub entered : HostRun → List ℕ → SwitchEntry → HostRun
@@ -35,7 +40,8 @@ entered h held x = record { held = held; past = x ∷ h .past }
 abbrev pub refusedEntry : SwitchCall → ℕ → SwitchEntry
 refusedEntry c n = record { call = c; answer = Refused n; bytes = [] }
 
-module _ (h : HostRun) (s : Switch) (e : h .held ≡ switchBytes s) (shape : Shaped s) (w : s .requester < 2 ^ 16) (x : Lent) where
+-- a host that holds the bytes of a switch, and others behind them
+module _ (h : HostRun) (s : Switch) (rest : List ℕ) (e : h .held ≡ switchBytes s ++ rest) (shape : Shaped s) (w : s .requester < 2 ^ 16) (x : Lent) where
   abbrev c : SwitchCall
   c = x .called
 
@@ -48,15 +54,15 @@ module _ (h : HostRun) (s : Switch) (e : h .held ≡ switchBytes s) (shape : Sha
 
   -- and after the call r of the switch that the bytes hold
   abbrev stepped : Switched → HostRun
-  stepped r = entered h (switchBytes (r .switch)) (entryOf c r)
+  stepped r = entered h (switchBytes (r .switch) ++ rest) (entryOf c r)
 
   goes : isSwitch lent ≡ true → refusal (switchIn lent) c ≡ 0 → after (acceptedOn (switchIn lent) c) ≡ stepped (switchStep s c)
   goes b z =
-      let whole = lent-whole (x .switch) (h .held) b (ap length e ∙ switch-length (switchBytes s) (switch-clean s)) in
-      let same : switchIn lent ≡ s = ap switchIn (whole .0 ∙ e) ∙ switch-reads s shape w in
+      let whole = lent-whole (x .switch) (switchBytes s) rest (ap (λ (l : List ℕ). isSwitch (take (x .switch) l)) (sym e) ∙ b) (switch-ten s) in
+      let same : switchIn lent ≡ s = ap (λ (l : List ℕ). switchIn (take (x .switch) l)) e ∙ ap switchIn (whole .0) ∙ switch-reads s shape w in
+      let behind : drop (x .switch) (h .held) ≡ rest = ap (drop (x .switch)) e ∙ whole .1 in
       let entry : Switch → SwitchEntry = λ t. entryOf c (accepted (nextSwitch t c) (sends t c) (outputOf c)) in
-      (λ i. entered h (switchBytes (nextSwitch (same i) c) ++ whole .1 i) (entry (same i)))
-      ∙ ap (λ (l : List ℕ). entered h l (entry s)) (append-nil (switchBytes (nextSwitch s c)))
+      (λ i. entered h (switchBytes (nextSwitch (same i) c) ++ behind i) (entry (same i)))
       ∙ ap stepped (sym (step-accepted s c (ap (λ (t : Switch). refusal t c) (sym same) ∙ z)))
 
   stays : (n : ℕ) → (n ≡ 0 → ⊥) → after (refusedWith lent c n) ≡ entered h (h .held) (refusedEntry c n)

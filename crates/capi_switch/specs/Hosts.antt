@@ -12,7 +12,7 @@ use Rattle.switch.specs.Calls.{SwitchCall}
 use Rattle.switch.specs.History.{SwitchPast}
 use Rattle.capi_switch.specs.Crossing.{Crossed, crossed}
 
--- a call of a host: what is called, and how many bytes of the switch it lends. A host that lends another length gets its refusal
+-- a call of a host: what is called, and how many of the bytes that it holds it lends as the switch. A host that lends another length gets its refusal
 pub record Lent : Type 0 where
   pub switch : ℕ
   pub called : SwitchCall
@@ -28,7 +28,7 @@ left held x r = r .switch ++ drop (x .switch) held
 abbrev pub answerOf : Crossed → Answer
 answerOf r = cond (eqb (r .refusal) 0) Done (Refused (r .refusal))
 
--- the bytes that a host holds, and the past of its calls: what was called, what was returned, the bytes sent
+-- the bytes that a host holds, the switch's first, and the past of its calls: what was called, what was returned, the bytes sent
 pub record HostRun : Type 0 where
   pub held : List ℕ
   pub past : SwitchPast

@@ -4,7 +4,7 @@ use mathlib.Core.Path.{_≡_, refl, sym, ap, _∙_, subst}
 use mathlib.Core.Bool.{Bool, true, false, cond, Bool·beq}
 use mathlib.Core.List.{List, [], _∷_, _++_}
 use mathlib.Core.Logic.{_↔_}
-use Prim.Native.Nat.{ℕ, _≤_}
+use Prim.Native.Nat.{ℕ, _≤_, _<_}
 use native.Mathlib.Nat.{le-refl}
 use lib.Dec.{eqb}
 use lib.ListN.{length}
@@ -16,9 +16,9 @@ use Rattle.model.specs.Since.{Every}
 use Rattle.model.proofs.History.SinceLaws.{every-nil, every-cons}
 use Rattle.model.proofs.History.Machine.{list-keeps}
 use Rattle.switch.specs.declared.Switch.{Switch}
-use Rattle.switch.specs.Switches.{fresh, upstream}
+use Rattle.switch.specs.Switches.{fresh, level, upstream}
 use Rattle.switch.specs.Calls.{SwitchCall, pass, down, Switched, nextSwitch, changes, forwardedBy, sends, refusal, switchStep}
-use Rattle.switch.specs.History.{SwitchEntry, entryOf, SwitchPast, SwitchRun, switchCalled, switchRun, heard, DrivenBy}
+use Rattle.switch.specs.History.{SwitchEntry, entryOf, SwitchPast, SwitchRun, switchCalled, switchRun, heard, ActiveBy, DrivenBy}
 use Rattle.switch.proofs.SwitchLaws.{upstream-active, upstream-elim, upstream-fresh}
 use Rattle.switch.proofs.StepLaws.{step-accepted, step-refused, entry-accepted, entry-refused, requester-kept}
 use Rattle.switch.proofs.ChangeLaws.{changes-agree}
@@ -104,6 +104,15 @@ agrees requester calls =
     list-keeps switchCalled (Inv requester) (keep requester) (record { switch = fresh requester; past = [] }) calls
     (record { agree = record { own = refl; hears = λ q first last. sym (upstream-fresh requester q) }; sent = every-nil (SentBy requester) })
 
+-- the upstream wires of a switch whose wires are active as a past says
+pub driven-by : (s : Switch) (past : SwitchPast) → ((k p : ℕ) → k < 8 → 1 ≤ p → p ≤ 4 → (level s k p ≡ true) ↔ ActiveBy k p past)
+    → (q : ℕ) → (upstream s q ≡ true) ↔ DrivenBy q past
+driven-by s past wire q = (
+  upstream-elim s q
+      (λ k p a b c m on. record { port = k; pin = p; isPort = a; first = b; last = c; mapped = m; active = wire k p a b c .0 on }),
+  λ d. upstream-active s q (d .port) (d .pin) (d .isPort) (d .first) (d .last) (d .mapped) (wire (d .port) (d .pin) (d .isPort) (d .first) (d .last) .1 (d .active)),
+)
+
 -- "The upstream wire is active while any port's mapped wire is": after any calls from a fresh switch the host has heard of each upstream pin
 -- what its wire is
 pub host-agrees : (requester : ℕ) (calls : List SwitchCall) (q : ℕ) → 1 ≤ q → q ≤ 4
@@ -118,12 +127,7 @@ pub upstream-history : (requester : ℕ) (calls : List SwitchCall) (q : ℕ) →
     (heard q (r .past) ≡ true) ↔ DrivenBy q (r .past)
 upstream-history requester calls q first last =
     let r = switchRun (fresh requester) calls in
-    let same = host-agrees requester calls q first last in (
-      λ e. upstream-elim (r .switch) q
-          (λ k p a b c m on. record { port = k; pin = p; isPort = a; first = b; last = c; mapped = m; active = port-wire requester calls k p a b c .0 on }) (sym same ∙ e),
-      λ d. let on = port-wire requester calls (d .port) (d .pin) (d .isPort) (d .first) (d .last) .1 (d .active) in
-          same ∙ upstream-active (r .switch) q (d .port) (d .pin) (d .isPort) (d .first) (d .last) (d .mapped) on,
-    )
+    rw (host-agrees requester calls q first last) (driven-by (r .switch) (r .past) (port-wire requester calls) q)
 
 -- "Each change of that, and nothing else, sends a wire packet, with the switch's requester ID, function part 0": each call from a fresh switch on,
 -- if it was accepted, sent the message write that it passed and the changes of what the host has heard, in upstream pin order; if refused, nothing

@@ -1,7 +1,7 @@
 -- Document 02, request [4]: what a call of a switch sends. A message write passes; a wire packet changes one upstream wire at most; a port going down
 -- deasserts only. Assumes nothing.
 use mathlib.Core.Path.{_≡_, refl, sym, ap, ap₂, _∙_}
-use mathlib.Core.Bool.{Bool, true, false, not, cond, _&&_, false≢true}
+use mathlib.Core.Bool.{Bool, true, false, not, cond, _&&_}
 use mathlib.Core.List.{List, []}
 use Prim.Native.Nat.{ℕ, _-_, _^_, _≤_, _<_}
 use native.Mathlib.Omega.{arith}
@@ -24,9 +24,9 @@ use Rattle.switch.specs.declared.Switch.{Switch}
 use Rattle.switch.specs.Switches.{idle, portOf, switchOf, wiresOf, level, withLevel, withoutPort, upstreamPin, upstream}
 use Rattle.switch.specs.Calls.{SwitchCall, pass, down, Switched, accepted, deviceOf, badCall, nextSwitch, ownRequester}
 use Rattle.switch.specs.Calls.{changeOf, changes, forwardedBy, sends, switchStep}
-use Rattle.switch.specs.Claims.{Shaped, ofWire}
-use Rattle.switch.proofs.SwitchLaws.{level-set, level-down, upstream-mono, upstream-same, upstream-pin}
-use Rattle.switch.proofs.StepLaws.{step-elim, step-accepted, refusal-zero, zero-refusal, accepted-zero, pass-fine, fine-pass, message-next, message-sends, wire-next, wire-sends, other-sends}
+use Rattle.switch.specs.Claims.{ofWire}
+use Rattle.switch.proofs.SwitchLaws.{level-other, level-was, upstream-mono, upstream-same, upstream-pin}
+use Rattle.switch.proofs.StepLaws.{step-elim, step-accepted, zero-refusal, accepted-zero, fine-pass, message-next, message-sends, wire-next, wire-sends, other-sends}
 use Rattle.switch.proofs.ChangeLaws.{no-changes, changes-one, change-length, changes-length, change-deasserts}
 use Rattle.switch.proofs.Refusals.{port-packet}
 
@@ -76,12 +76,13 @@ repeat-nothing s k requester pin active port r first last device e out =
     step-accepted s c (zero-refusal s c fine (rw none (omega arith)))
     ∙ ap₂ (λ (t : Switch) (l : List ℕ). accepted t l out) (pass-next s k requester pin active first last out ∙ same) none
 
-module _ (s : Switch) (h : Shaped s) (k pin : ℕ) (active : Bool) (port : k < 8) (first : 1 ≤ pin) (last : pin ≤ 4) where
+module _ (s : Switch) (k pin : ℕ) (active : Bool) (first : 1 ≤ pin) where
   -- a wire's level is no matter to the other upstream pins
   upstream-other : (q : ℕ) → (q ≡ upstreamPin k pin → ⊥) → upstream (withLevel s k pin active) q ≡ upstream s q
   upstream-other q n =
       upstream-same (withLevel s k pin active) s q
-      (λ j p _ one _ m. level-set s h k port pin active j p first last one ∙ by-test (eqb k j && eqb pin p) (λ t. absurd (n (sym m ∙ here j p t))) (λ t. rw t))
+      (λ j p _ one _ m.
+      by-test (eqb k j && eqb pin p) (λ t. absurd (n (sym m ∙ here j p t))) (level-other s k pin j p active first one))
     where
       here : (j p : ℕ) → (eqb k j && eqb pin p) ≡ true → upstreamPin j p ≡ upstreamPin k pin
       here j p t = let z = both (eqb k j) (eqb pin p) t in sym (ap₂ upstreamPin (eqb-true k j (z .0)) (eqb-true pin p (z .1)))
@@ -91,30 +92,27 @@ module _ (s : Switch) (h : Shaped s) (k pin : ℕ) (active : Bool) (port : k < 8
   changes-pin = let u = upstream-pin k pin in changes-one (s .requester) _ _ (upstreamPin k pin) (u .0) (u .1) upstream-other
 
 -- a wire packet for pin p at port k leaves every upstream wire but one as it was, and sends a packet for that one if it changed, and else nothing
-pub pass-one : (s : Switch) → Shaped s → (k requester pin : ℕ) (active : Bool) → k < 8 → 1 ≤ pin → pin ≤ 4 → (out : List ℕ)
+pub pass-one : (s : Switch) (k requester pin : ℕ) (active : Bool) → 1 ≤ pin → pin ≤ 4 → (out : List ℕ)
     → let c : SwitchCall = pass k (wireMessage requester pin active) out in
     ((q : ℕ) → (q ≡ upstreamPin k pin → ⊥) → upstream (nextSwitch s c) q ≡ upstream s q)
     × (sends s c ≡ changeOf (s .requester) (upstream s) (upstream (nextSwitch s c)) (upstreamPin k pin))
-pass-one s h k requester pin active port first last out =
+pass-one s k requester pin active first last out =
     let next = pass-next s k requester pin active first last out in (
-      λ q n. ap (λ (t : Switch). upstream t q) next ∙ upstream-other s h k pin active port first last q n,
-      pass-sends s k requester pin active first last out ∙ changes-pin s h k pin active port first last
+      λ q n. ap (λ (t : Switch). upstream t q) next ∙ upstream-other s k pin active first q n,
+      pass-sends s k requester pin active first last out ∙ changes-pin s k pin active first
           ∙ ap (λ (t : Switch). changeOf (s .requester) (upstream s) (upstream t) (upstreamPin k pin)) (sym next),
     )
 
 -- ---- a port going down
 
 -- "A port going down drops its wires, changes sent in upstream pin order": a Deassert for each upstream wire that was active and is no more
-pub down-deasserts : (s : Switch) → Shaped s → (k : ℕ) → k < 8 → (out : List ℕ)
+pub down-deasserts : (s : Switch) (k : ℕ) (out : List ℕ)
     → sends s (down k out)
     ≡ join (λ q. cond (upstream s q && not (upstream (withoutPort s k) q)) (wireMessage (ownRequester (s .requester)) q false) []) (count 1 4)
 unfolding sends forwardedBy nextSwitch changes
-down-deasserts s h k port out =
+down-deasserts s k out =
     join-same (changeOf (s .requester) (upstream s) (upstream (withoutPort s k))) _ (count 1 4)
-    (λ q. change-deasserts (s .requester) (upstream s) (upstream (withoutPort s k)) q (upstream-mono (withoutPort s k) s q (λ j p _ _ _ _ e. was j p e)))
-  where
-    was : (j p : ℕ) → level (withoutPort s k) j p ≡ true → level s j p ≡ true
-    was j p e = by-test (eqb k j) (λ t. absurd (false≢true (sym (level-down s h k port j p ∙ rw t) ∙ e))) (λ t. sym (level-down s h k port j p ∙ rw t) ∙ e)
+    (λ q. change-deasserts (s .requester) (upstream s) (upstream (withoutPort s k)) q (upstream-mono (withoutPort s k) s q (λ j p _ _ _ _ e. level-was s k j p e)))
 
 -- ---- at most
 
@@ -141,14 +139,14 @@ pub bytes-bound : (s : Switch) (c : SwitchCall) → switchStep s c .count ≤ 64
 bytes-bound s c = step-elim s c (λ (r : Switched). r .count ≤ 64) (λ _. sends-length s c) (λ _. omega arith)
 
 -- and for a packet at most 20
-pub pass-bound : (s : Switch) → Shaped s → (k : ℕ) (bytes out : List ℕ) → switchStep s (pass k bytes out) .count ≤ 20
-pass-bound s h k bytes out =
+pub pass-bound : (s : Switch) (k : ℕ) (bytes out : List ℕ) → switchStep s (pass k bytes out) .count ≤ 20
+pass-bound s k bytes out =
     step-elim s (pass k bytes out) (λ (r : Switched). r .count ≤ 20)
-    (λ e. pass-length s k bytes out 20 (omega arith) (one (pass-fine k bytes out (refusal-zero s (pass k bytes out) e .0) .0)))
+    (λ _. pass-length s k bytes out 20 (omega arith) one)
     (λ _. omega arith)
   where
-    one : k < 8 → (w : Level) → decoded bytes ≡ Wire w → length (changes (s .requester) (upstream s) (upstream (withLevel s k (w .pin) (w .active)))) ≤ 20
-    one port w e =
+    one : (w : Level) → decoded bytes ≡ Wire w → length (changes (s .requester) (upstream s) (upstream (withLevel s k (w .pin) (w .active)))) ≤ 20
+    one w e =
         let r = decoded-wire bytes w e in
         let after = upstream (withLevel s k (w .pin) (w .active)) in
-        rw (changes-pin s h k (w .pin) (w .active) port (r .first) (r .last)) (omega (arith, change-length (s .requester) (upstream s) after (upstreamPin k (w .pin))))
+        rw (changes-pin s k (w .pin) (w .active) (r .first)) (omega (arith, change-length (s .requester) (upstream s) after (upstreamPin k (w .pin))))

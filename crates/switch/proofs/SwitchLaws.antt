@@ -6,12 +6,12 @@ use mathlib.Core.List.{List, [], _∷_}
 use mathlib.Core.Logic.{_↔_}
 use Prim.Native.Nat.{ℕ, zero, suc, _-_, _≤_, _<_}
 use native.Mathlib.Omega.{arith}
-use lib.Dec.{eqb}
+use lib.Dec.{ltb, eqb}
 use lib.ListN.{length, set, getD, replicate, length-set}
-use lib.Seq.{getD-set-same, getD-set-other}
-use borrow.Author.Tests.{eqb-true, eqb-false, eq-eqb}
+use lib.Seq.{getD-set-same, getD-set-other, set-out}
+use borrow.Author.Tests.{eqb-true, eqb-false, eq-eqb, ltb-true, ltb-false, lt-ltb}
 use Rattle.words.specs.Lists.{count, member}
-use Rattle.words.proofs.BoolLaws.{by-test, both, and-intro, same-test}
+use Rattle.words.proofs.BoolLaws.{by-test, both, and-intro, second-false, same-test, cond-elim}
 use Rattle.words.proofs.ListLaws.{member-head, member-tail, member-count, count-member}
 use Rattle.switch.specs.declared.Port.{Port}
 use Rattle.switch.specs.declared.Switch.{Switch}
@@ -71,27 +71,61 @@ wire-set wires q p b n q1 q4 p1 =
     by-test (eqb q p) (λ e. rw (← eqb-true q p e, eq-eqb q q refl) (getD-set-same wires (q - 1) b false (omega arith)))
     (λ e. let ne : q ≡ p → ⊥ = eqb-false q p e in rw e (getD-set-other wires (q - 1) (p - 1) b false (λ x. ne (omega arith))))
 
+-- an element after a change of one that is there, or of none
+element-set : {A : Type 0} (l : List A) (j k : ℕ) (x d : A) → getD (set l j x) k d ≡ cond (eqb j k && ltb j (length l)) x (getD l k d)
+element-set {A = A} l j k x d = by-test (eqb j k) here (λ e. rw e (getD-set-other l j k x d (λ q. eqb-false j k e (sym q))))
+  where
+    here : eqb j k ≡ true → getD (set l j x) k d ≡ cond (eqb j k && ltb j (length l)) x (getD l k d)
+    here e =
+        rw (← eqb-true j k e, eq-eqb j j refl)
+        (by-test (ltb j (length l)) (λ h. rw h (getD-set-same l j x d (ltb-true j (length l) h)))
+        (λ h. rw h (ap (λ (m : List A). getD m j d) (set-out l j x (ltb-false j (length l) h)))))
+
+-- port j with other wires, if there is a port j
+level-port : (s : Switch) (j : ℕ) (wires : List Bool) (k p : ℕ)
+    → level (switchOf (s .requester) (set (s .ports) j (portOf wires))) k p ≡ cond (eqb j k && ltb j (length (s .ports))) (wireOf wires p) (level s k p)
+unfolding level
+level-port s j wires k p =
+    ap (λ (x : Port). wireOf (x .wires) p) (element-set (s .ports) j k (portOf wires) idle)
+    ∙ by-test (eqb j k && ltb j (length (s .ports))) (λ e. rw e) (λ e. rw e)
+
 module _ (s : Switch) (h : Shaped s) (j : ℕ) (i : j < 8) where
-  -- port j with other wires
-  level-port : (wires : List Bool) (k p : ℕ)
-      → level (switchOf (s .requester) (set (s .ports) j (portOf wires))) k p ≡ cond (eqb j k) (wireOf wires p) (level s k p)
-  unfolding level
-  level-port wires k p =
-      by-test (eqb j k)
-      (λ e. rw (← eqb-true j k e, eq-eqb j j refl) (ap (λ (x : Port). wireOf (x .wires) p) (getD-set-same (s .ports) j (portOf wires) idle (omega (arith, h .ports)))))
-      (λ e. rw e (ap (λ (x : Port). wireOf (x .wires) p) (getD-set-other (s .ports) j k (portOf wires) idle (λ q. eqb-false j k e (sym q)))))
+  in-range : ltb j (length (s .ports)) ≡ true
+  in-range = lt-ltb j (length (s .ports)) (omega (arith, h .ports))
 
   -- the wire of pin q at port j has its new level, and every other one its old
   pub level-set : (q : ℕ) (b : Bool) (k p : ℕ) → 1 ≤ q → q ≤ 4 → 1 ≤ p → level (withLevel s j q b) k p ≡ cond (eqb j k && eqb q p) b (level s k p)
   unfolding withLevel level
   level-set q b k p q1 q4 p1 =
-      level-port (set (wiresOf s j) (q - 1) b) k p
-      ∙ by-test (eqb j k) (λ e. rw (← eqb-true j k e, eq-eqb j j refl) (wire-set (wiresOf s j) q p b (h .wires j) q1 q4 p1)) (λ e. rw e)
+      level-port s j (set (wiresOf s j) (q - 1) b) k p
+      ∙ by-test (eqb j k) (λ e. rw (← eqb-true j k e, eq-eqb j j refl, in-range) (wire-set (wiresOf s j) q p b (h .wires j) q1 q4 p1)) (λ e. rw e)
 
   -- the wires of port j are inactive, and every other one has its old level
   pub level-down : (k p : ℕ) → level (withoutPort s j) k p ≡ cond (eqb j k) false (level s k p)
   unfolding withoutPort
-  level-down k p = level-port (idle .wires) k p ∙ rw (idle-wire p)
+  level-down k p = level-port s j (idle .wires) k p ∙ by-test (eqb j k) (λ e. rw (e, in-range, idle-wire p)) (λ e. rw e)
+
+-- ---- of any switch, also where the port is none of its
+
+-- another wire than the one that is set has its old level
+pub level-other : (s : Switch) (j q k p : ℕ) (b : Bool) → 1 ≤ q → 1 ≤ p → (eqb j k && eqb q p) ≡ false → level (withLevel s j q b) k p ≡ level s k p
+unfolding withLevel level
+level-other s j q k p b q1 p1 n =
+    level-port s j (set (wiresOf s j) (q - 1) b) k p
+    ∙ cond-elim (λ (x : Bool). x ≡ level s k p) (eqb j k && ltb j (length (s .ports))) same (λ e. refl)
+  where
+    same : (eqb j k && ltb j (length (s .ports))) ≡ true → wireOf (set (wiresOf s j) (q - 1) b) p ≡ level s k p
+    same e =
+        let here = both (eqb j k) (ltb j (length (s .ports))) e .0 in
+        let apart : q ≡ p → ⊥ = eqb-false q p (second-false (eqb j k) (eqb q p) here n) in
+        getD-set-other (wiresOf s j) (q - 1) (p - 1) b false (λ x. apart (omega (arith, q1, p1, x))) ∙ ap (λ (x : ℕ). wireOf (wiresOf s x) p) (eqb-true j k here)
+
+-- a wire that is active after a port has gone down was active before
+pub level-was : (s : Switch) (j k p : ℕ) → level (withoutPort s j) k p ≡ true → level s k p ≡ true
+unfolding withoutPort
+level-was s j k p e =
+    cond-elim (λ (x : Bool). x ≡ true → level s k p ≡ true) (eqb j k && ltb j (length (s .ports)))
+    (λ t x. absurd (false≢true (sym (idle-wire p) ∙ x))) (λ t x. x) (sym (level-port s j (idle .wires) k p) ∙ e)
 
 -- ---- the upstream wires
 
