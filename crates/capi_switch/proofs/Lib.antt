@@ -1,5 +1,6 @@
-pub mod BytesExact
-pub mod CrossingFor
 pub mod HostHistory
-pub mod HostStep
 pub mod Refused
+pub mod BytesExact
+pub mod Interface
+pub mod HostStep
+pub mod CrossingFor

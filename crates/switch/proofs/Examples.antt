@@ -11,20 +11,20 @@ use Rattle.switch.specs.Examples.Ports as Ports
 use Rattle.switch.specs.Examples.Upstream as Upstream
 
 -- the definitions of request [4] to be unfolded together
-unfoldable definitionsHere : Bool
+unfoldable pub switchDefinitions : Bool
 unfolding
     Decoded.asMessage Decoded.asWire Decoded.decodedWire Decoded.decoded
     Switches.fresh Switches.level Switches.withLevel Switches.withoutPort Switches.upstreamPin Switches.some Switches.drives Switches.upstream
     Calls.deviceOf Calls.badPacket Calls.badCall Calls.taking Calls.nextSwitch Calls.ownRequester Calls.changeOf Calls.changes Calls.forwarded Calls.forwardedBy Calls.sends
     Calls.refusal Calls.switchStep
-definitionsHere = true
+switchDefinitions = true
 
 -- ports, pins, layouts, device numbers, room
 pub ports : T (agree Ports.ports)
-unfolding definitions definitionsHere
+unfolding definitions switchDefinitions
 ports = tt
 
 -- what goes upstream, byte for byte
 pub upstream : T (allGive Upstream.upstream)
-unfolding definitions definitionsHere
+unfolding definitions switchDefinitions
 upstream = tt
