@@ -1,6 +1,6 @@
 -- From the code's parts to what crosses, one law for each way out. Assumes nothing.
 use mathlib.Core.Path.{_≡_, refl, sym, ap, _∙_}
-use mathlib.Core.Bool.{Bool, true, false, not, _&&_, true≢false, false≢true}
+use mathlib.Core.Bool.{Bool, true, false, not, _&&_, and-assoc, and-true, true≢false, false≢true}
 use mathlib.Core.List.{List, [], _++_, append-nil}
 use Prim.Native.Nat.{ℕ, _+_, _≤_, _<_}
 use native.Mathlib.Omega.{arith}
@@ -17,23 +17,10 @@ use Rattle.switch.specs.declared.outcome.Outcome.{Outcome}
 use Rattle.switch.specs.Switches.{fresh}
 use Rattle.switch.specs.Calls.{SwitchCall, outputOf, switchStep}
 use Rattle.switch.specs.Outcomes.{after}
+use Rattle.switch.proofs.JoinLaws.{eight-joined}
 use Rattle.capi_switch.specs.Crossing.{switchBytes, switchIn, portsClean, isSwitch, handed, switchOver, back, crossed, started}
 
 -- ---- bytes that a switch has
-
-and-true : (b : Bool) → b ≡ (b && true)
-and-true true = refl
-and-true false = refl
-
-joined-eight : (a b c d e f g h : Bool) → (((((((a && b) && c) && d) && e) && f) && g) && h) ≡ (a && (b && (c && (d && (e && (f && (g && (h && true))))))))
-joined-eight false b c d e f g h = refl
-joined-eight true false c d e f g h = refl
-joined-eight true true false d e f g h = refl
-joined-eight true true true false e f g h = refl
-joined-eight true true true true false f g h = refl
-joined-eight true true true true true false g h = refl
-joined-eight true true true true true true false h = refl
-joined-eight true true true true true true true h = and-true h
 
 pub eight-clean : (l : List ℕ)
     → let low : ℕ → Bool = λ k. ltb (byte l k) 16 in
@@ -41,7 +28,7 @@ pub eight-clean : (l : List ℕ)
 unfolding portsClean all count
 eight-clean l =
     let low : ℕ → Bool = λ k. ltb (byte l k) 16 in
-    joined-eight (low 2) (low 3) (low 4) (low 5) (low 6) (low 7) (low 8) (low 9)
+    eight-joined _&&_ true and-assoc and-true (low 2) (low 3) (low 4) (low 5) (low 6) (low 7) (low 8) (low 9)
 
 pub other-length : (l : List ℕ) → (length l ≡ 10 → ⊥) → false ≡ isSwitch l
 unfolding isSwitch

@@ -1,6 +1,6 @@
 -- The eight by four levels as the code makes them, row by row. Assumes nothing.
 use mathlib.Core.Path.{_≡_, refl, ap, _∙_}
-use mathlib.Core.Bool.{Bool, true, false, _||_}
+use mathlib.Core.Bool.{Bool, false, _||_, or-assoc, or-false}
 use mathlib.Core.List.{List, [], _∷_}
 use Prim.Native.Nat.{ℕ, zero, suc, _+_, _-_, _%_, _<_}
 use native.Mathlib.Omega.{arith}
@@ -16,12 +16,8 @@ element [] k d e h = absurd (omega (arith, h))
 element (x ∷ l) zero d e h = refl
 element (x ∷ l) (suc k) d e h = element l k d e (omega (arith, h))
 
-or-false : (b : Bool) → b ≡ (b || false)
-or-false true = refl
-or-false false = refl
-
 four : (a b c d : Bool) → (a ∷ b ∷ c ∷ d ∷ []) ≡ ((a || false) ∷ (b || false) ∷ (c || false) ∷ (d || false) ∷ [])
-four a b c d i = or-false a i ∷ or-false b i ∷ or-false c i ∷ or-false d i ∷ []
+four a b c d = rw (or-false, or-false, or-false, or-false)
 
 -- the wires of port k by upstream pins: each port by itself
 pub turned-row : (k : ℕ) (w : List Bool) → k < 8
@@ -37,16 +33,10 @@ turned-row (suc (suc (suc (suc (suc (suc zero)))))) w h = four (getD w 2 false) 
 turned-row (suc (suc (suc (suc (suc (suc (suc zero))))))) w h = four (getD w 1 false) (getD w 2 false) (getD w 3 false) (getD w 0 false)
 turned-row (suc (suc (suc (suc (suc (suc (suc (suc k)))))))) w h = absurd (omega (arith, h))
 
--- eight levels joined
-joined-eight : (a b c d e f g h : Bool) → (((((((a || b) || c) || d) || e) || f) || g) || h) ≡ (a || (b || (c || (d || (e || (f || (g || (h || false))))))))
-joined-eight true b c d e f g h = refl
-joined-eight false true c d e f g h = refl
-joined-eight false false true d e f g h = refl
-joined-eight false false false true e f g h = refl
-joined-eight false false false false true f g h = refl
-joined-eight false false false false false true g h = refl
-joined-eight false false false false false false true h = refl
-joined-eight false false false false false false false h = or-false h
+-- eight levels joined from the left are the same joined from the right, by an operation that is associative and has a unit
+pub eight-joined : (op : Bool → Bool → Bool) (u : Bool) → ((a b c : Bool) → op (op a b) c ≡ op a (op b c)) → ((a : Bool) → op a u ≡ a)
+    → (a b c d e f g h : Bool) → op (op (op (op (op (op (op a b) c) d) e) f) g) h ≡ op a (op b (op c (op d (op e (op f (op g (op h u)))))))
+eight-joined op u assoc unit a b c d e f g h = simp (assoc, unit)
 
 pub active-row : (m : List (List Bool)) (q : ℕ)
     → let at : ℕ → Bool = λ k. getD (getD m k []) q false in
@@ -55,7 +45,7 @@ unfolding activeIn some count
 active-row m q =
     let at : ℕ → Bool = λ k. getD (getD m k []) q false in
     let place : q ≡ q + 1 - 1 = omega arith in
-    joined-eight (at 0) (at 1) (at 2) (at 3) (at 4) (at 5) (at 6) (at 7) ∙ ap (λ (x : ℕ). some (λ k. getD (getD m k []) x false) (count 0 8)) place
+    eight-joined _||_ false or-assoc or-false (at 0) (at 1) (at 2) (at 3) (at 4) (at 5) (at 6) (at 7) ∙ ap (λ (x : ℕ). some (λ k. getD (getD m k []) x false) (count 0 8)) place
 
 -- mapped and joined, they are the upstream wires
 pub joined-wires : (s : Switch) → joinedOf (mappedOf (levelsOf s)) ≡ upstreamOf s

@@ -1,3 +1,4 @@
+-- Two bytes of the requester ID, then what `port_byte` gives for the wires of each port. Assumes nothing.
 use mathlib.Core.Path.{ap, _∙_}
 use mathlib.Core.List.{[], _∷_}
 use Prim.Native.Nat.{_/_, _%_}

@@ -1,3 +1,4 @@
+-- A refusal leaves the bytes; else the switch is written. Assumes nothing.
 use mathlib.Core.Path.{sym, _∙_}
 use Rattle.capi_switch.proofs.CrossingFor.{stays, goes}
 use borrow.Author.Needs.{needs}

@@ -1,3 +1,4 @@
+-- The requester ID, and what `port_of` gives for each port's byte. Assumes nothing.
 use mathlib.Core.List.{[], _∷_}
 use Rattle.words.specs.Lists.{count}
 use Rattle.switch.specs.Switches.{switchOf}

@@ -1,3 +1,4 @@
+-- 60 where the bytes are no switch's; else the going down on the switch that they hold, which is handed back. Assumes nothing.
 use mathlib.Core.Path.{_≡_}
 use mathlib.Core.Bool.{true}
 use mathlib.Core.List.{List}

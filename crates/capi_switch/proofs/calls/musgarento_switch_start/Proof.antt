@@ -1,3 +1,4 @@
+-- 60 by a wrong length or a wide requester ID; else a fresh switch is written. Assumes nothing.
 use Rattle.capi_switch.proofs.CrossingFor.{start-length, start-wide, start-done}
 use borrow.Author.Needs.{needs}
 use Rattle.capi_switch.proofs.calls.musgarento_switch_start.Statement.{statement}

@@ -1,3 +1,4 @@
+-- The sizes of four packets are the size of all. Assumes nothing.
 use mathlib.Core.Path.{_∙_}
 use Prim.Native.Nat.{_+_}
 use Rattle.switch.proofs.WriteLaws.{all-lengths}

@@ -1,3 +1,4 @@
+-- Nothing, or the wire's packet. Assumes nothing.
 use native.Mathlib.Omega.{arith}
 use Rattle.switch.specs.Calls.{ownRequester}
 use Rattle.switch.proofs.WriteLaws.{one-sent, none-written, one-written}

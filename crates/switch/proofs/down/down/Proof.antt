@@ -1,3 +1,4 @@
+-- Each way out cites one law of `CallFor`: a port above 7, or the changes. Assumes nothing.
 use Rattle.switch.proofs.CallFor.{down-high, down-port}
 use borrow.Author.Needs.{needs}
 use Rattle.switch.proofs.down.down.Statement.{statement}

@@ -1,3 +1,4 @@
+-- Eight rows, each what `wires` gives. Assumes nothing.
 use mathlib.Core.List.{[], _∷_}
 use Rattle.words.specs.Lists.{count}
 use Rattle.switch.specs.Joined.{levelsOf}

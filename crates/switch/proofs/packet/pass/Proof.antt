@@ -1,3 +1,4 @@
+-- Each way out cites one law of `CallFor`: a port above 7, a message, a wire packet, no packet. Assumes nothing.
 use mathlib.Core.Path.{sym, _∙_}
 use native.Mathlib.Omega.{arith}
 use Rattle.tlp.proofs.RoundTrip.{decoded-wire}

@@ -1,3 +1,4 @@
+-- Each way out cites one law of `CallFor`: address bits, room, passed. Assumes nothing.
 use Rattle.switch.proofs.CallFor.{room-short, room-done, message-bits, message-even}
 use borrow.Author.Needs.{needs}
 use Rattle.switch.proofs.packet.pass_message.Statement.{statement}

@@ -1,3 +1,4 @@
+-- Each way out cites one law of `CallFor`: another device, or the changes. Assumes nothing.
 use Rattle.switch.specs.Calls.{deviceOf}
 use Rattle.switch.proofs.CallFor.{wire-device, wire-in}
 use borrow.Author.Needs.{needs}
