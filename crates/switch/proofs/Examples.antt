@@ -14,7 +14,7 @@ use Rattle.switch.specs.Examples.Upstream as Upstream
 unfoldable pub switchDefinitions : Bool
 unfolding
     Decoded.asMessage Decoded.asWire Decoded.decodedWire Decoded.decoded
-    Switches.fresh Switches.level Switches.withLevel Switches.withoutPort Switches.upstreamPin Switches.some Switches.drives Switches.upstream
+    Switches.fresh Switches.level Switches.withLevel Switches.withoutPort Switches.upstreamPin Switches.any Switches.drives Switches.upstream
     Calls.deviceOf Calls.badPacket Calls.badCall Calls.taking Calls.nextSwitch Calls.ownRequester Calls.changeOf Calls.changes Calls.forwarded Calls.forwardedBy Calls.sends
     Calls.refusal Calls.switchStep
 switchDefinitions = true

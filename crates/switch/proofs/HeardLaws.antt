@@ -32,7 +32,7 @@ says-nothing q zero h b = refl
 says-nothing q (suc n) h b = refl
 
 -- a packet p, and what stands behind it
-module _ (p rest : List ℕ) (x : Packet) (some : 1 ≤ length p) (whole : firstLength (p ++ rest) ≡ length p) (is : decoded p ≡ x) where
+module _ (p rest : List ℕ) (x : Packet) (nonempty : 1 ≤ length p) (whole : firstLength (p ++ rest) ≡ length p) (is : decoded p ≡ x) where
   packets-first : (n : ℕ) → packetsIn (suc n) (p ++ rest) ≡ x ∷ packetsIn n rest
   unfolding packetsIn
   packets-first n =
@@ -116,9 +116,9 @@ module _ (requester : ℕ) (before after : ℕ → Bool) (q : ℕ) where
 
 -- ---- a message write that passes
 
-size-some : (upper : ℕ) → 1 ≤ messageSize upper
+size-nonzero : (upper : ℕ) → 1 ≤ messageSize upper
 unfolding messageSize
-size-some upper = cond-elim (λ (n : ℕ). 1 ≤ n) (eqb upper 0) (λ _. omega arith) (λ _. omega arith)
+size-nonzero upper = cond-elim (λ (n : ℕ). 1 ≤ n) (eqb upper 0) (λ _. omega arith) (λ _. omega arith)
 
 -- the bytes that a call forwards, a message write's or none, say nothing of any pin
 pub says-forwarded : (q : ℕ) (bytes rest : List ℕ) (f : Bool → Bool) → Says q rest f → Says q (forwarded (decoded bytes) bytes ++ rest) f
@@ -131,6 +131,6 @@ says-forwarded q bytes rest f says = go (decoded bytes) refl
         let size : length bytes ≡ messageSize (m .upper) = ap length b ∙ message-length (m .requester) (m .upper) (m .address) (m .value) in
         let whole : firstLength (bytes ++ rest) ≡ messageSize (m .upper) =
         ap (λ (l : List ℕ). firstLength (l ++ rest)) b ∙ first-message (m .requester) (m .upper) (m .address) (m .value) rest in
-        says-packet bytes rest (Message m) (omega (arith, size, size-some (m .upper))) (whole ∙ sym size) e q f says
+        says-packet bytes rest (Message m) (omega (arith, size, size-nonzero (m .upper))) (whole ∙ sym size) e q f says
     go (Wire w) e = says
     go Other e = says

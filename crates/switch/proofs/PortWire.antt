@@ -8,7 +8,7 @@ use Prim.Native.Nat.{ℕ, _≤_, _<_}
 use lib.Dec.{eqb}
 use Rattle.words.proofs.BoolLaws.{neither, or-intro}
 use Rattle.model.specs.Answers.{isAccepted}
-use Rattle.model.proofs.History.Machine.{Law, bitAfter, bit-iff}
+use Rattle.model.proofs.History.Machine.{Law, bitAfter, bit-iff, bit-stays}
 use Rattle.tlp.specs.declared.decode.Packet.{Packet}
 use Rattle.tlp.specs.declared.decode.Packet.the-variants.{Message, Wire, Other}
 use Rattle.tlp.specs.Decoded.{decoded}
@@ -55,10 +55,6 @@ cond-bit false asserts true false = refl
 cond-bit false asserts false true = refl
 cond-bit false asserts false false = refl
 
-kept-bit : (was : Bool) → was ≡ bitAfter false was false
-kept-bit true = refl
-kept-bit false = refl
-
 -- an Assert of the wire
 abbrev pub made : (k p : ℕ) → SwitchEntry → SwitchPast → Bool
 made k p x before = assertFor k p x
@@ -80,7 +76,7 @@ module _ (k p : ℕ) (first : 1 ≤ p) where
       step-elim s c
       (λ (r : Switched). level (r .switch) k p ≡ bitAfter (assertFor k p (entryOf c r)) (level s k p) (packetFor k p (entryOf c r) || wentDown k (entryOf c r)))
       (λ e. level-next s h k p first c (refusal-zero s c e .0) ∙ cond-bit (givesPacket k p c) (givesAssert c) (takesDown k c) (level s k p))
-      (λ e. kept-bit (level s k p))
+      (λ e. bit-stays (level s k p) false refl)
 
   call-law : (r : SwitchRun) (c : SwitchCall) → Shaped (r .switch) → LawOf k p r (switchCalled r c)
   unfolding switchCalled

@@ -15,7 +15,7 @@ use Rattle.words.proofs.BoolLaws.{by-test, both, and-intro, second-false, same-
 use Rattle.words.proofs.ListLaws.{member-head, member-tail, member-count, count-member}
 use Rattle.switch.specs.declared.Port.{Port}
 use Rattle.switch.specs.declared.Switch.{Switch}
-use Rattle.switch.specs.Switches.{portOf, switchOf, idle, fresh, wiresOf, wireOf, level, withLevel, withoutPort, upstreamPin, some, drives, upstream}
+use Rattle.switch.specs.Switches.{portOf, switchOf, idle, fresh, wiresOf, wireOf, level, withLevel, withoutPort, upstreamPin, any, drives, upstream}
 use Rattle.switch.specs.Claims.{Shaped}
 
 -- ---- eight ports of four wires
@@ -135,19 +135,19 @@ record Passing (f : ℕ → Bool) (l : List ℕ) : Type 0 where
   listed : member number l ≡ true
   passes : f number ≡ true
 
-some-true : (f : ℕ → Bool) (l : List ℕ) → some f l ≡ true → Passing f l
-unfolding some
-some-true f [] e = absurd (false≢true e)
-some-true f (x ∷ l) e =
+any-true : (f : ℕ → Bool) (l : List ℕ) → any f l ≡ true → Passing f l
+unfolding any
+any-true f [] e = absurd (false≢true e)
+any-true f (x ∷ l) e =
     by-test (f x) (λ p. record { number = x; listed = member-head x l; passes = p })
     (λ p.
-    let r = some-true f l (rw p at e) in
+    let r = any-true f l (rw p at e) in
     record { number = r .number; listed = member-tail (r .number) x l (r .listed); passes = r .passes })
 
-true-some : (f : ℕ → Bool) (l : List ℕ) (x : ℕ) → member x l ≡ true → f x ≡ true → some f l ≡ true
-unfolding some member
-true-some f [] x m p = m
-true-some f (y ∷ l) x m p = by-test (eqb x y) (λ e. rw (← eqb-true x y e, p)) (λ e. rw (true-some f l x (rw e at m) p) (or-true (f y)))
+true-any : (f : ℕ → Bool) (l : List ℕ) (x : ℕ) → member x l ≡ true → f x ≡ true → any f l ≡ true
+unfolding any member
+true-any f [] x m p = m
+true-any f (y ∷ l) x m p = by-test (eqb x y) (λ e. rw (← eqb-true x y e, p)) (λ e. rw (true-any f l x (rw e at m) p) (or-true (f y)))
 
 -- a wire of a port that becomes upstream pin q and is active
 pub record Driven (s : Switch) (q : ℕ) : Type 0 where
@@ -162,7 +162,7 @@ pub record Driven (s : Switch) (q : ℕ) : Type 0 where
 -- "The upstream wire is active while any port's mapped wire is": exactly then
 pub upstream-iff : (s : Switch) (q : ℕ) → (upstream s q ≡ true) ↔ Driven s q
 unfolding upstream drives level
-upstream-iff s q = (λ e. found (some-true (λ k. drives k (wiresOf s k) q) (count 0 8) e), drive)
+upstream-iff s q = (λ e. found (any-true (λ k. drives k (wiresOf s k) q) (count 0 8) e), drive)
   where
     test : (k p : ℕ) → Bool
     test k p = eqb (upstreamPin k p) q && wireOf (wiresOf s k) p
@@ -170,7 +170,7 @@ upstream-iff s q = (λ e. found (some-true (λ k. drives k (wiresOf s k) q) (cou
     found : Passing (λ k. drives k (wiresOf s k) q) (count 0 8) → Driven s q
     found a =
         let k = a .number in
-        let b = some-true (test k) (count 1 4) (a .passes) in
+        let b = any-true (test k) (count 1 4) (a .passes) in
         let ports = member-count 0 8 k (a .listed) in
         let pins = member-count 1 4 (b .number) (b .listed) in
         let on = both (eqb (upstreamPin k (b .number)) q) (wireOf (wiresOf s k) (b .number)) (b .passes) in
@@ -186,8 +186,8 @@ upstream-iff s q = (λ e. found (some-true (λ k. drives k (wiresOf s k) q) (cou
 
     drive : Driven s q → upstream s q ≡ true
     drive d =
-        true-some (λ k. drives k (wiresOf s k) q) (count 0 8) (d .port) (count-member 0 8 (d .port) (omega arith) (omega (arith, d .isPort)))
-        (true-some (test (d .port)) (count 1 4) (d .pin) (count-member 1 4 (d .pin) (d .first) (omega (arith, d .last)))
+        true-any (λ k. drives k (wiresOf s k) q) (count 0 8) (d .port) (count-member 0 8 (d .port) (omega arith) (omega (arith, d .isPort)))
+        (true-any (test (d .port)) (count 1 4) (d .pin) (count-member 1 4 (d .pin) (d .first) (omega (arith, d .last)))
         (and-intro (eqb (upstreamPin (d .port) (d .pin)) q) (wireOf (wiresOf s (d .port)) (d .pin)) (eq-eqb (upstreamPin (d .port) (d .pin)) q (d .mapped)) (d .active)))
 
 -- the two ways of it, by port and pin

@@ -5,7 +5,7 @@ use Prim.Native.Nat.{ℕ, _-_}
 use lib.ListN.{getD}
 use Rattle.words.specs.Lists.{count}
 use Rattle.switch.specs.declared.Switch.{Switch}
-use Rattle.switch.specs.Switches.{wiresOf, wireOf, some, drives, upstream}
+use Rattle.switch.specs.Switches.{wiresOf, wireOf, any, drives, upstream}
 
 -- the wires of each port, by card pins
 unfoldable pub levelsOf : Switch → List (List Bool)
@@ -21,7 +21,7 @@ mappedOf l = map (λ k. turnedBy k (getD l k [])) (count 0 8)
 
 -- upstream pin q is active in some row
 unfoldable pub activeIn : List (List Bool) → (q : ℕ) → Bool
-activeIn m q = some (λ k. wireOf (getD m k []) q) (count 0 8)
+activeIn m q = any (λ k. wireOf (getD m k []) q) (count 0 8)
 
 unfoldable pub joinedOf : List (List Bool) → List Bool
 joinedOf m = map (activeIn m) (count 1 4)

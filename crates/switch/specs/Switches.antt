@@ -46,15 +46,15 @@ withoutPort s k = switchOf (s .requester) (set (s .ports) k idle)
 unfoldable pub upstreamPin : (k p : ℕ) → ℕ
 upstreamPin k p = (k + p - 1) % 4 + 1
 
--- some number of a list passes a test
-unfoldable pub some : (ℕ → Bool) → List ℕ → Bool
-some f [] = false
-some f (x ∷ l) = f x || some f l
+-- any number of a list passes a test
+unfoldable pub any : (ℕ → Bool) → List ℕ → Bool
+any f [] = false
+any f (x ∷ l) = f x || any f l
 
 -- port k with these wires drives upstream pin q
 unfoldable pub drives : (k : ℕ) → List Bool → (q : ℕ) → Bool
-drives k wires q = some (λ p. eqb (upstreamPin k p) q && wireOf wires p) (count 1 4)
+drives k wires q = any (λ p. eqb (upstreamPin k p) q && wireOf wires p) (count 1 4)
 
 -- "The upstream wire is active while any port's mapped wire is"
 unfoldable pub upstream : Switch → (q : ℕ) → Bool
-upstream s q = some (λ k. drives k (wiresOf s k) q) (count 0 8)
+upstream s q = any (λ k. drives k (wiresOf s k) q) (count 0 8)
