@@ -12,16 +12,16 @@ use Rattle.words.proofs.BoolLaws.{neither, or-intro}
 use Rattle.model.specs.Answers.{isAccepted}
 use Rattle.model.specs.Since.{Every}
 use Rattle.model.proofs.History.SinceLaws.{every-nil, every-cons}
-use Rattle.model.proofs.History.Machine.{Law, bitAfter, bit-iff, bit-stays, list-keeps}
+use Rattle.model.proofs.History.Machine.{Law, bitAfter, bit-iff, list-keeps}
 use Rattle.switch.specs.declared.Switch.{Switch}
 use Rattle.switch.specs.Switches.{fresh, level, upstream}
 use Rattle.switch.specs.Calls.{SwitchCall, changes, forwardedBy, switchStep}
 use Rattle.switch.specs.History.{SwitchEntry, entryOf, SwitchPast, packetFor, assertFor, wentDown, ActiveBy, DrivenBy, heard}
 use Rattle.switch.specs.Claims.{Shaped}
-use Rattle.switch.proofs.SwitchLaws.{shaped-fresh, level-fresh, upstream-fresh}
+use Rattle.switch.proofs.SwitchLaws.{shaped-fresh, level-fresh}
 use Rattle.switch.proofs.StepLaws.{shaped-kept, requester-kept}
-use Rattle.switch.proofs.PortWire.{made, cleared, level-step}
-use Rattle.switch.proofs.HostAgrees.{SentBy, Agree, heard-refused, heard-step, sent-step, driven-by}
+use Rattle.switch.proofs.PortWire.{made, cleared, bit-refused, level-step}
+use Rattle.switch.proofs.HostAgrees.{SentBy, Agree, agree-fresh, sent-refused, heard-refused, heard-step, sent-step, driven-by}
 use Rattle.capi_switch.specs.Crossing.{switchBytes, started}
 use Rattle.capi_switch.specs.Hosts.{Lent, HostRun, hostCalled, hostRun, wireBit}
 use Rattle.capi_switch.proofs.CrossingFor.{switch-ten}
@@ -60,7 +60,6 @@ module _ (requester : ℕ) (rest : List ℕ) (h : HostRun) (i : Good requester r
       }
 
   refused-good : (n : ℕ) → Good requester rest (entered h (h .held) (refusedEntry c n))
-  unfolding isAccepted
   refused-good n = record {
     switch = i .switch;
     bytes = i .bytes;
@@ -70,7 +69,7 @@ module _ (requester : ℕ) (rest : List ℕ) (h : HostRun) (i : Good requester r
           own = i .agree .own;
           hears = λ q first last. heard-refused requester (i .switch) c (h .past) (i .agree) q n ∙ i .agree .hears q first last;
         };
-    sent = every-cons (SentBy requester) refl (i .sent);
+    sent = every-cons (SentBy requester) (sent-refused requester c n (h .past)) (i .sent);
   }
 
 -- ---- one call
@@ -86,7 +85,6 @@ module _ (requester : ℕ) (wide : requester < 2 ^ 16) (rest : List ℕ) where
     LawOf = Law hostCalled (λ h. h .past) (λ h. wireBit (h .held) k p) (Good requester rest) (made k p) (cleared k p)
 
     call-law : (h : HostRun) (x : Lent) → Good requester rest h → LawOf h (hostCalled h x)
-    unfolding assertFor packetFor wentDown isAccepted
     call-law h x i =
         let s = i .switch in
         let c = x .called in
@@ -101,7 +99,7 @@ module _ (requester : ℕ) (wide : requester < 2 ^ 16) (rest : List ℕ) where
               ∙ level-step k p first s c (i .shaped)
               ∙ ap (λ (was : Bool). bitAfter (assertFor k p y) was (packetFor k p y || wentDown k y)) (sym (held-level (h .held) s rest (i .bytes) k p port first last));
         })
-        (λ n. record { entry = refusedEntry c n; longer = refl; good = refused-good requester rest h i c n; wait = bit-stays (wireBit (h .held) k p) false refl })
+        (λ n. record { entry = refusedEntry c n; longer = refl; good = refused-good requester rest h i c n; wait = bit-refused k p c n (wireBit (h .held) k p) })
 
 -- ---- every list of calls
 
@@ -117,12 +115,11 @@ module _ (l : List ℕ) (requester : ℕ) (e : started l requester .refusal ≡ 
   first-run = record { held = begun; past = [] }
 
   first-good : Good requester rest first-run
-  unfolding fresh heard
   first-good = record {
     switch = fresh requester;
     bytes = begins;
     shaped = shaped-fresh requester;
-    agree = record { own = refl; hears = λ q first last. sym (upstream-fresh requester q) };
+    agree = agree-fresh requester;
     sent = every-nil (SentBy requester);
   }
 

@@ -12,7 +12,8 @@ use borrow.Author.Tests.{eqb-true, eqb-false, eq-eqb, ltb-true, lt-ltb}
 use Rattle.words.specs.Lists.{lacks}
 use Rattle.words.specs.Writers.{over}
 use Rattle.words.proofs.BoolLaws.{both, and-intro, cond-elim, first-lacks}
-use Rattle.model.specs.Answers.{refusalOf}
+use Rattle.model.specs.declared.Answer.the-variants.{Refused, Done}
+use Rattle.model.proofs.Calls.AnswerLaws.{numbered, is-refused, is-done}
 use Rattle.switch.specs.declared.Switch.{Switch}
 use Rattle.switch.specs.Switches.{fresh}
 use Rattle.switch.specs.Calls.{SwitchCall, Switched, nextSwitch, sends, outputOf, refusal, switchStep}
@@ -40,12 +41,12 @@ module _ (l : List ℕ) (c : SwitchCall) where
   -- what is so of an accepted and of a refused call is so of the call
   pub call-elim : (P : Crossed → Type 0) → (isSwitch l ≡ true → refusal (switchIn l) c ≡ 0 → P (acceptedOn (switchIn l) c))
       → ((n : ℕ) → (n ≡ 0 → ⊥) → P (refusedWith l c n)) → P (crossed l c)
-  unfolding refusalOf
   call-elim P f g =
       read-elim P
       (λ e.
-      step-elim (switchIn l) c (λ (r : Switched). P (back l r)) (f e)
-      (λ z. rw z (g (refusal (switchIn l) c) (eqb-false (refusal (switchIn l) c) 0 z))))
+      step-elim (switchIn l) c (λ (r : Switched). P (back l r)) (λ z. rw (numbered Done 0 0 0 is-done .0) (f e z))
+      (λ z. rw (numbered (Refused (refusal (switchIn l) c)) (refusal (switchIn l) c) 0 0 (is-refused (refusal (switchIn l) c)) .0, z)
+      (g (refusal (switchIn l) c) (eqb-false (refusal (switchIn l) c) 0 z))))
       (λ _. g 60 (λ z. omega arith))
 
   -- A function on a switch returns 60 exactly if the bytes lent to it are no switch's

@@ -51,6 +51,16 @@ pub record Agree (requester : ℕ) (s : Switch) (past : SwitchPast) : Type 0 whe
   pub own : s .requester ≡ requester
   pub hears : (q : ℕ) → 1 ≤ q → q ≤ 4 → heard q past ≡ upstream s q
 
+-- before any call: no wire is active, and the host has heard nothing
+pub agree-fresh : (requester : ℕ) → Agree requester (fresh requester) []
+unfolding fresh heard
+agree-fresh requester = record { own = refl; hears = λ q first last. sym (upstream-fresh requester q) }
+
+-- a refused call sends nothing
+pub sent-refused : (requester : ℕ) (c : SwitchCall) (n : ℕ) (past : SwitchPast) → SentBy requester (record { call = c; answer = Refused n; bytes = [] }) past
+unfolding isAccepted
+sent-refused requester c n past = refl
+
 module _ (requester : ℕ) (s : Switch) (c : SwitchCall) (past : SwitchPast) (a : Agree requester s past) where
   heard-accepted : (q : ℕ) → 1 ≤ q → q ≤ 4 → heard q (record { call = c; answer = Done; bytes = sends s c } ∷ past) ≡ upstream (nextSwitch s c) q
   unfolding heard
@@ -102,7 +112,7 @@ agrees : (requester : ℕ) (calls : List SwitchCall) → Inv requester (switchRu
 unfolding switchRun fresh heard
 agrees requester calls =
     list-keeps switchCalled (Inv requester) (keep requester) (record { switch = fresh requester; past = [] }) calls
-    (record { agree = record { own = refl; hears = λ q first last. sym (upstream-fresh requester q) }; sent = every-nil (SentBy requester) })
+    (record { agree = agree-fresh requester; sent = every-nil (SentBy requester) })
 
 -- the upstream wires of a switch whose wires are active as a past says
 pub driven-by : (s : Switch) (past : SwitchPast) → ((k p : ℕ) → k < 8 → 1 ≤ p → p ≤ 4 → (level s k p ≡ true) ↔ ActiveBy k p past)

@@ -8,6 +8,7 @@ use Prim.Native.Nat.{ℕ, _≤_, _<_}
 use lib.Dec.{eqb}
 use Rattle.words.proofs.BoolLaws.{neither, or-intro}
 use Rattle.model.specs.Answers.{isAccepted}
+use Rattle.model.specs.declared.Answer.the-variants.{Refused}
 use Rattle.model.proofs.History.Machine.{Law, bitAfter, bit-iff, bit-stays}
 use Rattle.tlp.specs.declared.decode.Packet.{Packet}
 use Rattle.tlp.specs.declared.decode.Packet.the-variants.{Message, Wire, Other}
@@ -15,7 +16,7 @@ use Rattle.tlp.specs.Decoded.{decoded}
 use Rattle.tlp.proofs.RoundTrip.{decoded-wire}
 use Rattle.switch.specs.declared.Switch.{Switch}
 use Rattle.switch.specs.Switches.{fresh, level}
-use Rattle.switch.specs.Calls.{SwitchCall, pass, down, Switched, badCall, taking, nextSwitch, switchStep}
+use Rattle.switch.specs.Calls.{SwitchCall, pass, down, Switched, badCall, taking, nextSwitch, refusal, switchStep}
 use Rattle.switch.specs.History.{SwitchEntry, entryOf, SwitchPast, SwitchRun, switchCalled, switchRun, isFor, isAssert}
 use Rattle.switch.specs.History.{givesPacket, givesAssert, takesDown, packetFor, assertFor, wentDown, ActiveBy}
 use Rattle.switch.specs.Claims.{Shaped}
@@ -63,6 +64,13 @@ made k p x before = assertFor k p x
 abbrev pub cleared : (k p : ℕ) → SwitchEntry → SwitchPast → Bool
 cleared k p x before = packetFor k p x || wentDown k x
 
+-- the entry of a refused call changes no wire
+pub bit-refused : (k p : ℕ) (c : SwitchCall) (n : ℕ) (was : Bool)
+    → let x : SwitchEntry = record { call = c; answer = Refused n; bytes = [] } in
+    was ≡ bitAfter (assertFor k p x) was (packetFor k p x || wentDown k x)
+unfolding assertFor packetFor wentDown isAccepted
+bit-refused k p c n was = bit-stays was false refl
+
 abbrev LawOf : (k p : ℕ) → SwitchRun → SwitchRun → Type 0
 LawOf k p = Law switchCalled (λ r. r .past) (λ r. level (r .switch) k p) (λ r. Shaped (r .switch)) (made k p) (cleared k p)
 
@@ -76,7 +84,7 @@ module _ (k p : ℕ) (first : 1 ≤ p) where
       step-elim s c
       (λ (r : Switched). level (r .switch) k p ≡ bitAfter (assertFor k p (entryOf c r)) (level s k p) (packetFor k p (entryOf c r) || wentDown k (entryOf c r)))
       (λ e. level-next s h k p first c (refusal-zero s c e .0) ∙ cond-bit (givesPacket k p c) (givesAssert c) (takesDown k c) (level s k p))
-      (λ e. bit-stays (level s k p) false refl)
+      (λ e. bit-refused k p c (refusal s c) (level s k p))
 
   call-law : (r : SwitchRun) (c : SwitchCall) → Shaped (r .switch) → LawOf k p r (switchCalled r c)
   unfolding switchCalled
