@@ -9,8 +9,8 @@ ghost use Rattle.capi_switch.specs.Crossing.{portByte, switchBytes, wire
 use model::Answer;
 use switch::Port;
 use switch::Switch;
-use switch::keep::wires;
 use switch::outcome::Outcome;
+use switch::state::wires;
 
 // Whether no port has more than four wires.
 fn ports_clean(b: &[u8]) -> bool

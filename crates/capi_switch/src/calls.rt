@@ -18,7 +18,7 @@ pub extern "C" fn musgarento_switch_start(state: &mut [u8], requester: u64) -> u
     if 65535 < requester {
         return 60;
     }
-    let fresh = switch::keep::start(requester as u16);
+    let fresh = switch::state::start(requester as u16);
     put_switch(state, fresh);
     0
 }

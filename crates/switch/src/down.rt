@@ -4,9 +4,9 @@ ghost use Rattle.switch.specs.Calls.{down, switchStep};
 ghost use Rattle.switch.specs.Outcomes.{after};
 use crate::Switch;
 use crate::change::send_changes;
-use crate::keep::without_port;
 use crate::outcome::Outcome;
 use crate::outcome::refused;
+use crate::state::without_port;
 
 // A port goes down.
 pub fn down(s: Switch, port: u64, out: &mut [u8]) -> Outcome

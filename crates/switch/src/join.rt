@@ -3,7 +3,7 @@ ghost use mathlib.Core.Path.{_≡_};
 ghost use Prim.Native.Nat.{_+_, _<_};
 ghost use Rattle.switch.specs.Joined.{levelsOf, turnedBy, mappedOf, activeIn, joinedOf, upstreamOf};
 use crate::Switch;
-use crate::keep::wires;
+use crate::state::wires;
 
 // The levels of all wires, by ports and card pins.
 pub fn levels(s: Switch) -> [[bool; 4]; 8]

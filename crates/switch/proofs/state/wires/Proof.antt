@@ -5,8 +5,8 @@ use Rattle.switch.specs.declared.Port.{Port}
 use Rattle.switch.specs.Switches.{idle}
 use Rattle.switch.proofs.JoinLaws.{element}
 use borrow.Author.Needs.{needs}
-use Rattle.switch.proofs.keep.wires.Statement.{statement}
-use Rattle.switch.proofs.keep.wires.Tie as tie
+use Rattle.switch.proofs.state.wires.Statement.{statement}
+use Rattle.switch.proofs.state.wires.Tie as tie
 
 returns : tie.Need-returns
 returns c =

@@ -1,8 +1,8 @@
 use mathlib.Core.Path.{refl}
 use Rattle.switch.specs.Switches.{withoutPort}
 use borrow.Author.Needs.{needs}
-use Rattle.switch.proofs.keep.without_port.Statement.{statement}
-use Rattle.switch.proofs.keep.without_port.Tie as tie
+use Rattle.switch.proofs.state.without_port.Statement.{statement}
+use Rattle.switch.proofs.state.without_port.Tie as tie
 
 returns : tie.Need-returns
 unfolding withoutPort

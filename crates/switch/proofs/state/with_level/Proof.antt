@@ -1,7 +1,7 @@
 use Rattle.switch.specs.Switches.{withLevel}
 use borrow.Author.Needs.{needs}
-use Rattle.switch.proofs.keep.with_level.Statement.{statement}
-use Rattle.switch.proofs.keep.with_level.Tie as tie
+use Rattle.switch.proofs.state.with_level.Statement.{statement}
+use Rattle.switch.proofs.state.with_level.Tie as tie
 
 returns : tie.Need-returns
 unfolding withLevel

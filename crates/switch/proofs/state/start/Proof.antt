@@ -1,7 +1,7 @@
 use mathlib.Core.Path.{refl}
 use Rattle.switch.specs.Switches.{fresh}
-use Rattle.switch.proofs.keep.start.Statement.{statement}
-use Rattle.switch.proofs.keep.start.Tie as tie
+use Rattle.switch.proofs.state.start.Statement.{statement}
+use Rattle.switch.proofs.state.start.Tie as tie
 
 returns : tie.Need-returns
 unfolding fresh
