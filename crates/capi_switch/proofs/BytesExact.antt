@@ -20,6 +20,7 @@ use Rattle.switch.specs.declared.Port.{Port}
 use Rattle.switch.specs.declared.Switch.{Switch}
 use Rattle.switch.specs.Switches.{portOf, switchOf, idle, wiresOf, wireOf, level}
 use Rattle.switch.specs.Claims.{Shaped}
+use Rattle.switch.proofs.SwitchLaws.{level-wire}
 use Rattle.capi_switch.specs.Crossing.{portByte, switchBytes, wiresIn, switchIn, portsClean, isSwitch}
 use Rattle.capi_switch.specs.Hosts.{wireBit}
 use Rattle.capi_switch.proofs.CrossingFor.{switch-length, switch-ten}
@@ -125,5 +126,5 @@ switch-kept l e b =
 
 -- What the bytes of a switch say of a port's wire is its level
 pub switch-bits : (s : Switch) (k p : ℕ) → k < 8 → 1 ≤ p → p ≤ 4 → wireBit (switchBytes s) k p ≡ level s k p
-unfolding wireBit level
-switch-bits s k p port first last = ap (λ (x : ℕ). bit x (p - 1)) (byte-at s k port) ∙ bit-wire (wiresOf s k) (p - 1) (omega arith)
+unfolding wireBit
+switch-bits s k p port first last = ap (λ (x : ℕ). bit x (p - 1)) (byte-at s k port) ∙ bit-wire (wiresOf s k) (p - 1) (omega arith) ∙ sym (level-wire s k p)

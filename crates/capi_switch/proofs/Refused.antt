@@ -9,16 +9,15 @@ use native.Mathlib.Omega.{arith}
 use lib.Dec.{ltb, eqb}
 use lib.ListN.{length}
 use borrow.Author.Tests.{eqb-true, eqb-false, eq-eqb, ltb-true, lt-ltb}
-use Rattle.words.specs.Lists.{lacks}
 use Rattle.words.specs.Writers.{over}
-use Rattle.words.proofs.BoolLaws.{both, and-intro, cond-elim, first-lacks}
+use Rattle.words.proofs.BoolLaws.{both, and-intro, cond-elim}
 use Rattle.model.specs.declared.Answer.the-variants.{Refused, Done}
 use Rattle.model.proofs.Calls.AnswerLaws.{numbered, is-refused, is-done}
 use Rattle.switch.specs.declared.Switch.{Switch}
 use Rattle.switch.specs.Switches.{fresh}
 use Rattle.switch.specs.Calls.{SwitchCall, Switched, nextSwitch, sends, outputOf, refusal, switchStep}
 use Rattle.switch.proofs.StepLaws.{step-elim}
-use Rattle.switch.proofs.Refusals.{refusal-number}
+use Rattle.switch.proofs.Refusals.{refusal-number, other-number}
 use Rattle.capi_switch.specs.Crossing.{switchBytes, switchIn, isSwitch, Crossed, handed, back, crossed, started}
 
 -- ---- a call
@@ -51,10 +50,9 @@ module _ (l : List ℕ) (c : SwitchCall) where
 
   -- A function on a switch returns 60 exactly if the bytes lent to it are no switch's
   pub sixty-exact : (crossed l c .refusal ≡ 60) ↔ (isSwitch l ≡ false)
-  unfolding refusal lacks
   sixty-exact = (
     read-elim (λ (r : Crossed). r .refusal ≡ 60 → isSwitch l ≡ false)
-        (λ _ e. absurd (eqb-false (refusal (switchIn l) c) 60 (first-lacks 60 _ refl refl) (sym (refusal-number (switchIn l) c) ∙ e)))
+        (λ _ e. absurd (eqb-false (refusal (switchIn l) c) 60 (other-number (switchIn l) c 60 refl refl refl) (sym (refusal-number (switchIn l) c) ∙ e)))
         (λ e _. e),
     λ e. read-elim (λ (r : Crossed). r .refusal ≡ 60) (λ t. absurd (true≢false (sym t ∙ e))) (λ _. refl),
   )

@@ -7,10 +7,11 @@ use mathlib.Core.Logic.{_↔_, _⊎_, inl, inr, Iff·trans}
 use Prim.Native.Nat.{ℕ, _%_, _<_}
 use native.Mathlib.Nat.{mod-eq-of-lt}
 use native.Mathlib.Omega.{arith}
-use lib.Dec.{ltb}
+use lib.Dec.{ltb, eqb}
 use lib.ListN.{length}
 use borrow.Author.Tests.{eq-eqb, eqb-true, ltb-true, lt-ltb, not-false}
-use Rattle.words.specs.Lists.{firstOf}
+use Rattle.words.specs.Lists.{firstOf, lacks}
+use Rattle.words.proofs.BoolLaws.{first-lacks}
 use Rattle.model.specs.Answers.{isAccepted, refusalOf}
 use Rattle.tlp.specs.declared.decode.Packet.{Packet}
 use Rattle.tlp.specs.declared.decode.Packet.the-variants.{Message, Wire, Other}
@@ -41,6 +42,11 @@ module _ (s : Switch) (c : SwitchCall) where
   pub refusal-number : refusalOf (switchStep s c .answer) ≡ refusal s c
   unfolding refusalOf
   refusal-number = step-elim s c (λ (r : Switched). refusalOf (r .answer) ≡ refusal s c) (λ e. sym e) (λ _. refl)
+
+  -- and it is 0, 50 or 6
+  pub other-number : (k : ℕ) → eqb 0 k ≡ false → eqb 50 k ≡ false → eqb 6 k ≡ false → eqb (refusal s c) k ≡ false
+  unfolding refusal lacks
+  other-number k z fifty six = first-lacks k _ z (rw (fifty, six))
 
   -- a refused call leaves the switch and the output as they were, and sends nothing
   pub refused-unchanged : isAccepted (switchStep s c .answer) ≡ false → Unchanged s (outputOf c) (switchStep s c)

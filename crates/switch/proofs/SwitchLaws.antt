@@ -56,6 +56,11 @@ shaped-down s j h = shaped-set s j (idle .wires) refl h
 
 -- ---- the level of a wire
 
+-- it is the port's wire of that pin
+pub level-wire : (s : Switch) (k p : ℕ) → level s k p ≡ wireOf (wiresOf s k) p
+unfolding level
+level-wire s k p = refl
+
 idle-wire : (p : ℕ) → wireOf (idle .wires) p ≡ false
 idle-wire p = all-equal 4 (p - 1) false
 

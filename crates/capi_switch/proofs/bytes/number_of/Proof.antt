@@ -9,6 +9,11 @@ pub number-of-spec : {M : Type 1} → statement M
 number-of-spec =
     tie.close
     (tie.spec
-    (λ c. search needs) (λ c. search needs) (λ c. search needs) (λ c. search needs) (λ c. search needs) (λ c. search needs)
-    (λ c. search needs) (λ c. rw (c .before .answer .given .1) (sym (numbered _ _ _ _ (is-refused _) .0))) (λ c. rw (c .before .answer2 .given .1) (sym (numbered _ _ _ _ (is-value _) .0))) (λ c. rw (c .enum-told .given .1) (sym (numbered _ _ _ _ is-done .0)))
-    (λ c. rw (c .enum-told2 .given .1) (sym (numbered _ _ _ _ is-sent .0))) (λ c. rw (c .enum-told3 .given .1) (sym (numbered _ _ _ _ is-held .0))) (λ c. rw (c .enum-told4 .given .1) (sym (numbered _ _ _ _ is-merged .0))) (λ c. rw (c .enum-told5 .given .1) (sym (numbered _ _ _ _ is-lost .0))))
+    (λ c. search needs) (λ c. search needs) (λ c. search needs) (λ c. search needs) (λ c. search needs) (λ c. search needs) (λ c. search needs)
+    (λ c. rw (c .before .answer .given .1) (sym (numbered _ _ _ _ (is-refused _) .0)))
+    (λ c. rw (c .before .answer2 .given .1) (sym (numbered _ _ _ _ (is-value _) .0)))
+    (λ c. rw (c .enum-told .given .1) (sym (numbered _ _ _ _ is-done .0)))
+    (λ c. rw (c .enum-told2 .given .1) (sym (numbered _ _ _ _ is-sent .0)))
+    (λ c. rw (c .enum-told3 .given .1) (sym (numbered _ _ _ _ is-held .0)))
+    (λ c. rw (c .enum-told4 .given .1) (sym (numbered _ _ _ _ is-merged .0)))
+    (λ c. rw (c .enum-told5 .given .1) (sym (numbered _ _ _ _ is-lost .0))))
