@@ -9,7 +9,6 @@ ghost use Rattle.capi_switch.specs.Crossing.{portByte, switchBytes, wire
 use model::Answer;
 use switch::Port;
 use switch::Switch;
-use switch::outcome::Outcome;
 use switch::state::wires;
 
 // Whether no port has more than four wires.
@@ -126,16 +125,15 @@ fn number_of(answer: Answer) -> u8
     }
 }
 
-// Writes the switch of an accepted outcome, and gives the number of its refusal, or 0; a refused one leaves the bytes.
-pub fn hand_back(bytes: &mut [u8], outcome: Outcome) -> u8
+// Writes the switch after an accepted call, and gives the number of the answer's refusal, or 0; a refused call leaves the bytes.
+pub fn hand_back(bytes: &mut [u8], s: Switch, answer: Answer) -> u8
     requires { ⌜ length (now bytes) ≡ 10 ⌝ }
-    ensures { λ r. ⌜ (r ≡ refusalOf (outcome .answer)) × (now (bytes .exit) ≡ switchOver (refusalOf (outcome .answer)) (now (bytes .entry)) (outcome .switch)) ⌝ }
+    ensures { λ r. ⌜ (r ≡ refusalOf answer) × (now (bytes .exit) ≡ switchOver (refusalOf answer) (now (bytes .entry)) s) ⌝ }
 {
-    let answer = outcome.answer;
     let number = number_of(answer);
     if number != 0 {
         return number;
     }
-    put_switch(bytes, outcome.switch);
+    put_switch(bytes, s);
     0
 }

@@ -41,7 +41,8 @@ pub extern "C" fn musgarento_switch_packet(
     let held = switch_of(state);
     let outcome = switch::packet::pass(held, port, packet, out);
     *count = outcome.count;
-    hand_back(state, outcome)
+    let answer = outcome.answer;
+    hand_back(state, outcome.switch, answer)
 }
 
 #[no_mangle]
@@ -61,5 +62,6 @@ pub extern "C" fn musgarento_switch_down(
     let held = switch_of(state);
     let outcome = switch::down::down(held, port, out);
     *count = outcome.count;
-    hand_back(state, outcome)
+    let answer = outcome.answer;
+    hand_back(state, outcome.switch, answer)
 }

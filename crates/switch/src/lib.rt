@@ -11,8 +11,8 @@ pub struct Port {
     pub wires: [bool; 4],
 }
 
-// The requester ID and the ports 0 to 7.
+// The ports 0 to 7 and the requester ID.
 pub struct Switch {
-    pub requester: u16,
     pub ports: [Port; 8],
+    pub requester: u16,
 }

@@ -27,18 +27,14 @@ pub fn wires(ports: [Port; 8], port: usize) -> [bool; 4]
 }
 
 // The wire of a pin at a port goes to a level.
-pub fn with_level(s: Switch, port: usize, pin: u8, active: bool) -> Switch
+pub fn with_level(mut s: Switch, port: usize, pin: u8, active: bool) -> Switch
     requires { ⌜ (port < 8) × (1 ≤ pin) × (pin ≤ 4) ⌝ }
     ensures { λ r. ⌜ r ≡ withLevel s port pin active ⌝ }
 {
-    let mut ports = s.ports;
-    let mut kept = wires(ports, port);
+    let mut kept = wires(s.ports, port);
     kept[(pin - 1) as usize] = active;
-    ports[port] = Port { wires: kept };
-    Switch {
-        requester: s.requester,
-        ports,
-    }
+    s.ports[port] = Port { wires: kept };
+    s
 }
 
 // A port drops its wires.
