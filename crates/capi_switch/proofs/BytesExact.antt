@@ -5,15 +5,15 @@ use mathlib.Core.List.{List, [], _∷_, _++_, map}
 use Prim.Native.Nat.{ℕ, _+_, _-_, _*_, _^_, _≤_, _<_}
 use native.Mathlib.Omega.{arith}
 use lib.Dec.{ltb, eqb}
-use lib.ListN.{length, drop, getD, length-map, length-drop, take-append-drop}
-use lib.Seq.{ext-getD, getD-append-add, getD-drop}
+use lib.ListN.{length, drop, getD, length-drop, take-append-drop}
+use lib.Seq.{getD-append-add, getD-drop}
 use borrow.Author.Tests.{eq-eqb, eqb-true, ltb-true, lt-ltb}
 use Rattle.words.specs.Lists.{count, all}
 use Rattle.words.specs.Bits.{bit, ofBool}
 use Rattle.words.specs.Bytes.{byte, number, part, word16, bytesOf, Bytes}
 use Rattle.words.proofs.BoolLaws.{both, and-intro}
 use Rattle.words.proofs.BitLaws.{ofBool-small}
-use Rattle.words.proofs.ListLaws.{length-count, member-count, map-count, all-below, holds-all}
+use Rattle.words.proofs.ListLaws.{member-count, map-count, map-listed, all-below, holds-all}
 use Rattle.words.proofs.ByteLaws.{bytes-number}
 use Rattle.model.proofs.Image.ImageLaws.{word16-of}
 use Rattle.switch.specs.declared.Port.{Port}
@@ -24,12 +24,6 @@ use Rattle.switch.proofs.SwitchLaws.{level-wire}
 use Rattle.capi_switch.specs.Crossing.{portByte, switchBytes, wiresIn, switchIn, portsClean, isSwitch}
 use Rattle.capi_switch.specs.Hosts.{wireBit}
 use Rattle.capi_switch.proofs.CrossingFor.{switch-length, switch-ten}
-
--- a list is given by its elements
-listed : {A : Type 0} (f : ℕ → A) (d : A) (l : List A) (n : ℕ) → length l ≡ n → ((k : ℕ) → k < n → f k ≡ getD l k d) → map f (count 0 n) ≡ l
-listed f d l n e h =
-    let size : length (map f (count 0 n)) ≡ n = length-map (count 0 n) f ∙ length-count 0 n in
-    ext-getD d (map f (count 0 n)) l (size ∙ sym e) (λ k j. let i : k < n = omega arith in map-count f d n k i ∙ h k i)
 
 -- ---- the byte of a port
 
@@ -58,7 +52,7 @@ unfolding portByte count
 bits-wires wires = four-bits (wireOf wires 1) (wireOf wires 2) (wireOf wires 3) (wireOf wires 4)
 
 wires-read : (wires : List Bool) → length wires ≡ 4 → wiresIn (portByte wires) ≡ wires
-wires-read wires e = bits-wires wires ∙ listed (λ i. getD wires i false) false wires 4 e (λ _ _. refl)
+wires-read wires e = bits-wires wires ∙ map-listed (λ i. getD wires i false) false wires 4 e (λ _ _. refl)
 
 bit-wire : (wires : List Bool) (i : ℕ) → i < 4 → bit (portByte wires) i ≡ getD wires i false
 unfolding wiresIn
@@ -102,7 +96,7 @@ switch-reads s h w =
     let read : ℕ → Port = λ k. portOf (wiresIn (byte (switchBytes s) (2 + k))) in
     let port : (k : ℕ) → k < 8 → read k ≡ getD (s .ports) k idle =
     λ k j. ap (λ (b : ℕ). portOf (wiresIn b)) (byte-at s k j) ∙ ap portOf (wires-read (wiresOf s k) (h .wires k)) in
-    λ i. switchOf (requester-read s w i) (listed read idle (s .ports) 8 (h .ports) port i)
+    λ i. switchOf (requester-read s w i) (map-listed read idle (s .ports) 8 (h .ports) port i)
 
 -- The bytes that are written of a switch are a switch's: 10, and no port has more than four wires
 pub switch-clean : (s : Switch) → isSwitch (switchBytes s) ≡ true
@@ -120,7 +114,7 @@ unfolding switchBytes switchIn word16 part
 switch-kept l e b =
     let ten = switch-length l e in
     ap₂ _++_ (bytes-number l b 0 2 (omega arith))
-    (listed (λ k. portByte (wiresOf (switchIn l) k)) 0 (drop 2 l) 8 (length-drop 2 l ∙ omega arith)
+    (map-listed (λ k. portByte (wiresOf (switchIn l) k)) 0 (drop 2 l) 8 (length-drop 2 l ∙ omega arith)
     (λ k h. ap portByte (port-read l k h) ∙ byte-kept (byte l (2 + k)) (clean-port l k e h) ∙ sym (getD-drop 2 l k 0)))
     ∙ take-append-drop 2 l
 

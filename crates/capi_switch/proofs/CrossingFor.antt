@@ -2,7 +2,7 @@
 use mathlib.Core.Path.{_≡_, refl, sym, ap, _∙_}
 use mathlib.Core.Bool.{Bool, true, false, not, _&&_, and-assoc, and-true, true≢false, false≢true}
 use mathlib.Core.List.{List, [], _++_, append-nil}
-use Prim.Native.Nat.{ℕ, _+_, _≤_, _<_}
+use Prim.Native.Nat.{ℕ, _≤_, _<_}
 use native.Mathlib.Omega.{arith}
 use lib.Dec.{ltb, eqb}
 use lib.ListN.{length, drop-of-length-le}
@@ -10,14 +10,13 @@ use borrow.Author.Tests.{eq-eqb, ne-eqb, eqb-true, lt-ltb, le-ltb}
 use Rattle.words.specs.Lists.{count, all}
 use Rattle.words.specs.Bytes.{byte, bytesOf}
 use Rattle.words.specs.Writers.{Wrote}
-use Rattle.words.proofs.BoolLaws.{both}
+use Rattle.words.proofs.BoolLaws.{both, eight-joined}
 use Rattle.model.specs.Answers.{refusalOf}
 use Rattle.switch.specs.declared.Switch.{Switch}
 use Rattle.switch.specs.declared.outcome.Outcome.{Outcome}
 use Rattle.switch.specs.Switches.{fresh}
 use Rattle.switch.specs.Calls.{SwitchCall, outputOf, switchStep}
 use Rattle.switch.specs.Outcomes.{after}
-use Rattle.switch.proofs.JoinLaws.{eight-joined}
 use Rattle.capi_switch.specs.Crossing.{switchBytes, switchIn, portsClean, isSwitch, handed, switchOver, back, crossed, started}
 
 -- ---- bytes that a switch has

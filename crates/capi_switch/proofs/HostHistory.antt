@@ -14,7 +14,7 @@ use Rattle.model.specs.Since.{Every}
 use Rattle.model.proofs.History.SinceLaws.{every-nil, every-cons}
 use Rattle.model.proofs.History.Machine.{Law, bitAfter, bit-iff, list-keeps}
 use Rattle.switch.specs.declared.Switch.{Switch}
-use Rattle.switch.specs.Switches.{fresh, level, upstream}
+use Rattle.switch.specs.Switches.{fresh, level}
 use Rattle.switch.specs.Calls.{SwitchCall, changes, forwardedBy, switchStep}
 use Rattle.switch.specs.History.{SwitchEntry, entryOf, SwitchPast, packetFor, assertFor, wentDown, ActiveBy, DrivenBy, heard}
 use Rattle.switch.specs.Claims.{Shaped}

@@ -1,7 +1,7 @@
 -- Document 01, "What demand 3 compares": a vector is an MSI-X one below N or an MSI one below 32. Those are all that demand 3 has to speak of:
 -- whatever an event of a sound card means is one of them, and nothing else waits. Assumes nothing.
 use mathlib.Core.Path.{_≡_, refl, sym, _∙_}
-use mathlib.Core.Bool.{true, false, true≢false, false≢true}
+use mathlib.Core.Bool.{true, true≢false, false≢true}
 use mathlib.Core.Logic.{_↔_, _⊎_, inl, inr}
 use mathlib.Core.Option.{Option, none, some, Option·some-ne-none}
 use Prim.Native.Nat.{ℕ, _<_}

@@ -1,46 +1,17 @@
 -- The packets that changes of the upstream wires send, of one pin and of all four.
 -- Assumes nothing.
-use mathlib.Core.Path.{_≡_, refl, sym, ap₂}
+use mathlib.Core.Path.{_≡_, refl}
 use mathlib.Core.Bool.{Bool, true, false, cond, not, _&&_, Bool·beq, false≢true}
-use mathlib.Core.List.{List, [], _∷_, _++_, append-nil}
-use Prim.Native.Nat.{ℕ, zero, suc, _+_, _≤_, _<_}
+use mathlib.Core.List.{List, []}
+use Prim.Native.Nat.{ℕ, _≤_}
 use native.Mathlib.Omega.{arith}
-use lib.Dec.{eqb}
 use lib.ListN.{length}
-use borrow.Author.Tests.{eqb-true, eqb-false}
-use Rattle.words.specs.Lists.{count, join}
-use Rattle.words.proofs.BoolLaws.{by-test, beq-refl, cond-elim}
-use Rattle.words.proofs.ListLaws.{Holds, holds-head, holds-tail, member-count, join-length, length-count}
+use Rattle.words.specs.Lists.{count}
+use Rattle.words.proofs.BoolLaws.{beq-refl, cond-elim}
+use Rattle.words.proofs.ListLaws.{member-count, join-length, join-members, join-empty, join-one, length-count}
 use Rattle.model.specs.Packets.{wireMessage}
 use Rattle.model.proofs.Vectors.PacketLaws.{wire-length}
 use Rattle.switch.specs.Calls.{ownRequester, changeOf, changes}
-
--- ---- join
-
-join-members : (f g : ℕ → List ℕ) (l : List ℕ) → Holds (λ x. f x ≡ g x) l → join f l ≡ join g l
-unfolding join
-join-members f g [] h = refl
-join-members f g (x ∷ l) h = ap₂ _++_ (holds-head (λ x. f x ≡ g x) x l h) (join-members f g l (holds-tail (λ x. f x ≡ g x) x l h))
-
-join-empty : (f : ℕ → List ℕ) (l : List ℕ) → Holds (λ x. f x ≡ []) l → join f l ≡ []
-unfolding join
-join-empty f [] h = refl
-join-empty f (x ∷ l) h = rw (holds-head (λ x. f x ≡ []) x l h) (join-empty f l (holds-tail (λ x. f x ≡ []) x l h))
-
--- of some numbers one at most gives something
-join-one : (f : ℕ → List ℕ) (v i n : ℕ) → ((x : ℕ) → (x ≡ v → ⊥) → f x ≡ []) → i ≤ v → v < i + n → join f (count i n) ≡ f v
-unfolding join count
-join-one f v i zero h a b = absurd (omega arith)
-join-one f v i (suc n) h a b =
-    by-test (eqb v i)
-    (λ e.
-    let q : v ≡ i = eqb-true v i e in
-    let r : join f (count (suc i) n) ≡ [] =
-    join-empty f (count (suc i) n) (λ x m. let p = member-count (suc i) n x m in h x (λ z. absurd (omega arith))) in
-    rw (r, q, append-nil))
-    (λ e.
-    let q : v ≡ i → ⊥ = eqb-false v i e in
-    rw (h i (λ p. q (sym p))) (join-one f v (suc i) n h (omega (arith, q)) (omega arith)))
 
 -- ---- one pin
 

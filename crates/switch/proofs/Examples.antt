@@ -1,6 +1,7 @@
 -- The worked examples of request [4], computed: for each of its numbers a case in which it shows. docs/NUMBERS.md has the list. Assumes nothing.
 use mathlib.Core.Bool.{Bool, true}
 use lib.Dec.{T}
+use Rattle.words.specs.Lists as Lists
 use Rattle.model.specs.Examples.Parts.{agree}
 use Rattle.model.proofs.Definitions.{definitions}
 use Rattle.tlp.specs.Decoded as Decoded
@@ -14,7 +15,7 @@ use Rattle.switch.specs.Examples.Upstream as Upstream
 unfoldable pub switchDefinitions : Bool
 unfolding
     Decoded.asMessage Decoded.asWire Decoded.decodedWire Decoded.decoded
-    Switches.fresh Switches.level Switches.withLevel Switches.withoutPort Switches.upstreamPin Switches.any Switches.drives Switches.upstream
+    Switches.fresh Switches.level Switches.withLevel Switches.withoutPort Switches.upstreamPin Lists.any Switches.drives Switches.upstream
     Calls.deviceOf Calls.badPacket Calls.badCall Calls.taking Calls.nextSwitch Calls.ownRequester Calls.changeOf Calls.changes Calls.forwarded Calls.forwardedBy Calls.sends
     Calls.refusal Calls.switchStep
 switchDefinitions = true

@@ -10,7 +10,7 @@ use lib.ListN.{length, length-append}
 use lib.Seq.{take-at, drop-at}
 use borrow.Author.Tests.{eqb-true, eqb-false, eq-eqb, ne-eqb}
 use Rattle.words.specs.Lists.{count, member, join}
-use Rattle.words.proofs.BoolLaws.{by-test, cond-elim}
+use Rattle.words.proofs.BoolLaws.{by-test, cond-elim, cond-not, cond-same}
 use Rattle.words.proofs.ListLaws.{Holds, holds-head, holds-tail, member-count, count-member}
 use Rattle.model.specs.Packets.{messageSize, wireMessage}
 use Rattle.model.proofs.Vectors.PacketLaws.{message-length, wire-length}
@@ -48,14 +48,6 @@ module _ (p rest : List ℕ) (x : Packet) (nonempty : 1 ≤ length p) (whole : f
 
 abbrev isPin : ℕ → Type 0
 isPin x = (1 ≤ x) × (x < 1 + 4)
-
-cond-not : {A : Type 0} (b : Bool) (x y : A) → cond (not b) x y ≡ cond b y x
-cond-not true x y = refl
-cond-not false x y = refl
-
-cond-same : {A : Type 0} (b : Bool) (x : A) → cond b x x ≡ x
-cond-same true x = refl
-cond-same false x = refl
 
 module _ (requester : ℕ) (before after : ℕ → Bool) (q : ℕ) where
   -- a pin of the list that changed has its level after

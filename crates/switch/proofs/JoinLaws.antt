@@ -4,17 +4,12 @@ use mathlib.Core.Bool.{Bool, false, _||_, or-assoc, or-false}
 use mathlib.Core.List.{List, [], _∷_}
 use Prim.Native.Nat.{ℕ, zero, suc, _+_, _-_, _%_, _<_}
 use native.Mathlib.Omega.{arith}
-use lib.ListN.{length, getD}
-use Rattle.words.specs.Lists.{count}
+use lib.ListN.{getD}
+use Rattle.words.specs.Lists.{count, any}
+use Rattle.words.proofs.BoolLaws.{eight-joined}
 use Rattle.switch.specs.declared.Switch.{Switch}
-use Rattle.switch.specs.Switches.{any, drives, upstreamPin, upstream}
+use Rattle.switch.specs.Switches.{drives, upstreamPin, upstream}
 use Rattle.switch.specs.Joined.{levelsOf, turnedBy, mappedOf, activeIn, joinedOf, upstreamOf}
-
--- an element that is there, whatever stands for a missing one
-pub element : {A : Type 0} (l : List A) (k : ℕ) (d e : A) → k < length l → getD l k d ≡ getD l k e
-element [] k d e h = absurd (omega (arith, h))
-element (x ∷ l) zero d e h = refl
-element (x ∷ l) (suc k) d e h = element l k d e (omega (arith, h))
 
 four : (a b c d : Bool) → (a ∷ b ∷ c ∷ d ∷ []) ≡ ((a || false) ∷ (b || false) ∷ (c || false) ∷ (d || false) ∷ [])
 four a b c d = rw (or-false, or-false, or-false, or-false)
@@ -32,11 +27,6 @@ turned-row (suc (suc (suc (suc (suc zero))))) w h = four (getD w 3 false) (getD 
 turned-row (suc (suc (suc (suc (suc (suc zero)))))) w h = four (getD w 2 false) (getD w 3 false) (getD w 0 false) (getD w 1 false)
 turned-row (suc (suc (suc (suc (suc (suc (suc zero))))))) w h = four (getD w 1 false) (getD w 2 false) (getD w 3 false) (getD w 0 false)
 turned-row (suc (suc (suc (suc (suc (suc (suc (suc k)))))))) w h = absurd (omega (arith, h))
-
--- eight levels joined from the left are the same joined from the right, by an operation that is associative and has a unit
-pub eight-joined : (op : Bool → Bool → Bool) (u : Bool) → ((a b c : Bool) → op (op a b) c ≡ op a (op b c)) → ((a : Bool) → op a u ≡ a)
-    → (a b c d e f g h : Bool) → op (op (op (op (op (op (op a b) c) d) e) f) g) h ≡ op a (op b (op c (op d (op e (op f (op g (op h u)))))))
-eight-joined op u assoc unit a b c d e f g h = simp (assoc, unit)
 
 pub active-row : (m : List (List Bool)) (q : ℕ)
     → let at : ℕ → Bool = λ k. getD (getD m k []) q false in

@@ -1,38 +1,25 @@
 -- The wires of a switch after a change of one of them, or of a port's, and the upstream wires by the wires of the ports.
 -- A changed switch keeps its shape whatever the numbers are. Assumes nothing.
 use mathlib.Core.Path.{_≡_, refl, sym, ap, _∙_}
-use mathlib.Core.Bool.{Bool, true, false, cond, _&&_, false≢true, or-true}
-use mathlib.Core.List.{List, [], _∷_}
+use mathlib.Core.Bool.{Bool, true, false, cond, _&&_, false≢true}
+use mathlib.Core.List.{List}
 use mathlib.Core.Logic.{_↔_}
-use Prim.Native.Nat.{ℕ, zero, suc, _-_, _≤_, _<_}
+use Prim.Native.Nat.{ℕ, _-_, _≤_, _<_}
 use native.Mathlib.Omega.{arith}
 use lib.Dec.{ltb, eqb}
-use lib.ListN.{length, set, getD, replicate, length-set}
-use lib.Seq.{getD-set-same, getD-set-other, set-out}
-use borrow.Author.Tests.{eqb-true, eqb-false, eq-eqb, ltb-true, ltb-false, lt-ltb}
-use Rattle.words.specs.Lists.{count, member}
+use lib.ListN.{length, set, length-set}
+use lib.Seq.{getD-set-same, getD-set-other}
+use borrow.Author.Tests.{eqb-true, eqb-false, eq-eqb, lt-ltb}
+use Rattle.words.specs.Lists.{count}
 use Rattle.words.proofs.BoolLaws.{by-test, both, and-intro, second-false, same-test, cond-elim}
-use Rattle.words.proofs.ListLaws.{member-head, member-tail, member-count, count-member}
+use Rattle.words.proofs.ListLaws.{Passing, any-true, true-any, member-count, count-member}
+use Rattle.words.proofs.ElementLaws.{all-equal, set-elim, element-set}
 use Rattle.switch.specs.declared.Port.{Port}
 use Rattle.switch.specs.declared.Switch.{Switch}
-use Rattle.switch.specs.Switches.{portOf, switchOf, idle, fresh, wiresOf, wireOf, level, withLevel, withoutPort, upstreamPin, any, drives, upstream}
+use Rattle.switch.specs.Switches.{portOf, switchOf, idle, fresh, wiresOf, wireOf, level, withLevel, withoutPort, upstreamPin, drives, upstream}
 use Rattle.switch.specs.Claims.{Shaped}
 
 -- ---- eight ports of four wires
-
--- what is so of a new element and of the old one is so of the element after a change
-set-elim : {A : Type 0} (P : A → Type 0) (l : List A) (j k : ℕ) (x d : A) → P x → P (getD l k d) → P (getD (set l j x) k d)
-set-elim P [] j k x d p q = q
-set-elim P (y ∷ l) zero zero x d p q = p
-set-elim P (y ∷ l) zero (suc k) x d p q = q
-set-elim P (y ∷ l) (suc j) zero x d p q = q
-set-elim P (y ∷ l) (suc j) (suc k) x d p q = set-elim P l j k x d p q
-
--- any place of equal elements, also past their end
-all-equal : {A : Type 0} (n i : ℕ) (a : A) → getD (replicate n a) i a ≡ a
-all-equal zero i a = refl
-all-equal (suc n) zero a = refl
-all-equal (suc n) (suc i) a = all-equal n i a
 
 shaped-set : (s : Switch) (j : ℕ) (wires : List Bool) → length wires ≡ 4 → Shaped s → Shaped (switchOf (s .requester) (set (s .ports) j (portOf wires)))
 shaped-set s j wires e h = record {
@@ -75,16 +62,6 @@ wire-set : (wires : List Bool) (q p : ℕ) (b : Bool) → length wires ≡ 4 →
 wire-set wires q p b n q1 q4 p1 =
     by-test (eqb q p) (λ e. rw (← eqb-true q p e, eq-eqb q q refl) (getD-set-same wires (q - 1) b false (omega arith)))
     (λ e. let ne : q ≡ p → ⊥ = eqb-false q p e in rw e (getD-set-other wires (q - 1) (p - 1) b false (λ x. ne (omega arith))))
-
--- an element after a change of one that is there, or of none
-element-set : {A : Type 0} (l : List A) (j k : ℕ) (x d : A) → getD (set l j x) k d ≡ cond (eqb j k && ltb j (length l)) x (getD l k d)
-element-set {A = A} l j k x d = by-test (eqb j k) here (λ e. rw e (getD-set-other l j k x d (λ q. eqb-false j k e (sym q))))
-  where
-    here : eqb j k ≡ true → getD (set l j x) k d ≡ cond (eqb j k && ltb j (length l)) x (getD l k d)
-    here e =
-        rw (← eqb-true j k e, eq-eqb j j refl)
-        (by-test (ltb j (length l)) (λ h. rw h (getD-set-same l j x d (ltb-true j (length l) h)))
-        (λ h. rw h (ap (λ (m : List A). getD m j d) (set-out l j x (ltb-false j (length l) h)))))
 
 -- port j with other wires, if there is a port j
 level-port : (s : Switch) (j : ℕ) (wires : List Bool) (k p : ℕ)
@@ -133,26 +110,6 @@ level-was s j k p e =
     (λ t x. absurd (false≢true (sym (idle-wire p) ∙ x))) (λ t x. x) (sym (level-port s j (idle .wires) k p) ∙ e)
 
 -- ---- the upstream wires
-
--- a number of a list that passes a test
-record Passing (f : ℕ → Bool) (l : List ℕ) : Type 0 where
-  number : ℕ
-  listed : member number l ≡ true
-  passes : f number ≡ true
-
-any-true : (f : ℕ → Bool) (l : List ℕ) → any f l ≡ true → Passing f l
-unfolding any
-any-true f [] e = absurd (false≢true e)
-any-true f (x ∷ l) e =
-    by-test (f x) (λ p. record { number = x; listed = member-head x l; passes = p })
-    (λ p.
-    let r = any-true f l (rw p at e) in
-    record { number = r .number; listed = member-tail (r .number) x l (r .listed); passes = r .passes })
-
-true-any : (f : ℕ → Bool) (l : List ℕ) (x : ℕ) → member x l ≡ true → f x ≡ true → any f l ≡ true
-unfolding any member
-true-any f [] x m p = m
-true-any f (y ∷ l) x m p = by-test (eqb x y) (λ e. rw (← eqb-true x y e, p)) (λ e. rw (true-any f l x (rw e at m) p) (or-true (f y)))
 
 -- a wire of a port that becomes upstream pin q and is active
 pub record Driven (s : Switch) (q : ℕ) : Type 0 where

@@ -1,5 +1,5 @@
 -- Document 02, request [4]: the calls of a switch, a packet from a port and a port going down, each as one total function. Assumes nothing.
-use mathlib.Core.Bool.{Bool, true, false, not, cond, _||_, Bool·beq}
+use mathlib.Core.Bool.{Bool, true, not, cond, _||_, Bool·beq}
 use mathlib.Core.List.{List, [], _∷_, _++_}
 use Prim.Native.Nat.{ℕ, _*_, _/_, _%_}
 use lib.Dec.{ltb, eqb}

@@ -1,11 +1,11 @@
 -- The eight by four levels of the ports' wires, mapped and joined into four upstream wires. Assumes nothing.
-use mathlib.Core.Bool.{Bool, false}
+use mathlib.Core.Bool.{Bool}
 use mathlib.Core.List.{List, [], map}
-use Prim.Native.Nat.{ℕ, _-_}
+use Prim.Native.Nat.{ℕ}
 use lib.ListN.{getD}
-use Rattle.words.specs.Lists.{count}
+use Rattle.words.specs.Lists.{count, any}
 use Rattle.switch.specs.declared.Switch.{Switch}
-use Rattle.switch.specs.Switches.{wiresOf, wireOf, any, drives, upstream}
+use Rattle.switch.specs.Switches.{wiresOf, wireOf, drives, upstream}
 
 -- the wires of each port, by card pins
 unfoldable pub levelsOf : Switch → List (List Bool)

@@ -1,10 +1,10 @@
 -- Document 02, request [4]: the wires of a switch. Port k, 0 to 7, keeps the wires of its card's pins 1 to 4. Assumes nothing.
-use mathlib.Core.Bool.{Bool, false, _&&_, _||_}
-use mathlib.Core.List.{List, [], _∷_}
+use mathlib.Core.Bool.{Bool, false, _&&_}
+use mathlib.Core.List.{List}
 use Prim.Native.Nat.{ℕ, _+_, _-_, _%_}
 use lib.Dec.{eqb}
 use lib.ListN.{set, replicate, getD}
-use Rattle.words.specs.Lists.{count}
+use Rattle.words.specs.Lists.{count, any}
 use Rattle.switch.specs.declared.Port.{Port}
 use Rattle.switch.specs.declared.Switch.{Switch}
 
@@ -45,11 +45,6 @@ withoutPort s k = switchOf (s .requester) (set (s .ports) k idle)
 -- "card pin p (1 to 4) becomes upstream pin ((k + p - 1) mod 4) + 1"
 unfoldable pub upstreamPin : (k p : ℕ) → ℕ
 upstreamPin k p = (k + p - 1) % 4 + 1
-
--- any number of a list passes a test
-unfoldable pub any : (ℕ → Bool) → List ℕ → Bool
-any f [] = false
-any f (x ∷ l) = f x || any f l
 
 -- port k with these wires drives upstream pin q
 unfoldable pub drives : (k : ℕ) → List Bool → (q : ℕ) → Bool

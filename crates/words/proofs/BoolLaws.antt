@@ -51,6 +51,19 @@ pub cond-elim : {A : Type 0} (P : A → Type 0) (b : Bool) {x y : A} → (b ≡ 
 cond-elim P true f g = f refl
 cond-elim P false f g = g refl
 
+pub cond-not : {A : Type 0} (b : Bool) (x y : A) → cond (not b) x y ≡ cond b y x
+cond-not true x y = refl
+cond-not false x y = refl
+
+pub cond-same : {A : Type 0} (b : Bool) (x : A) → cond b x x ≡ x
+cond-same true x = refl
+cond-same false x = refl
+
+-- eight tests joined from the left are the same joined from the right, by an operation that is associative and has a unit
+pub eight-joined : (op : Bool → Bool → Bool) (u : Bool) → ((a b c : Bool) → op (op a b) c ≡ op a (op b c)) → ((a : Bool) → op a u ≡ a)
+    → (a b c d e f g h : Bool) → op (op (op (op (op (op (op a b) c) d) e) f) g) h ≡ op a (op b (op c (op d (op e (op f (op g (op h u)))))))
+eight-joined op u assoc unit a b c d e f g h = simp (assoc, unit)
+
 -- three tests with the same number
 pub three-rows : (a b c : Bool) (x y : ℕ) → cond a x (cond b x (cond c x y)) ≡ cond ((a || b) || c) x y
 three-rows true b c x y = refl

@@ -134,14 +134,6 @@ word-drop s k i =
     number-shift (byte (drop k s)) (byte s) i (k + i) 4
     (λ j h. let e : k + (i + j) ≡ k + i + j = omega arith in getD-drop k s (i + j) 0 ∙ rw e)
 
-pub byte-words : (n : ℕ) (l : List ℕ) (i : ℕ) → i < n → byte (words32 n l) i ≡ word32 l (4 * i)
-unfolding words32
-byte-words zero l i h = absurd (omega arith)
-byte-words (suc n) l zero h = refl
-byte-words (suc n) l (suc i) h =
-    let e : 4 + 4 * i ≡ 4 * suc i = omega arith in
-    byte-words n (drop 4 l) i (omega arith) ∙ word-drop l 4 (4 * i) ∙ rw e
-
 -- ---- bytes from their number
 
 -- the n bytes from place i on

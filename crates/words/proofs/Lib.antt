@@ -2,6 +2,7 @@ pub mod Writers
 pub mod BitLaws
 pub mod BoolLaws
 pub mod ListLaws
+pub mod ElementLaws
 pub mod PartLaws
 pub mod ByteLaws
 pub mod BytesLaws

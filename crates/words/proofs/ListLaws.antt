@@ -7,10 +7,10 @@ use native.Mathlib.Nat.{zero-add, mul-suc, mod-lt, dvd-of-mod-eq-zero, dvd-mod-i
 use native.Mathlib.Numerals.{add-one}
 use native.Mathlib.Omega.{arith}
 use lib.Dec.{ltb, leb, eqb}
-use lib.ListN.{length, drop, getD, length-append, drop-of-length-le, List·getD-append}
-use lib.Seq.{drop-cons, getD-append-add}
+use lib.ListN.{length, drop, getD, length-append, length-map, drop-of-length-le, List·getD-append}
+use lib.Seq.{drop-cons, ext-getD, getD-append-add}
 use borrow.Author.Tests.{eq-eqb, ne-eqb, eqb-true, eqb-false, lt-ltb, le-ltb, le-leb, ltb-true, ltb-false, leb-true}
-use Rattle.words.specs.Lists.{count, keep, all, member, join, eachAt, allAt, same, within}
+use Rattle.words.specs.Lists.{count, keep, all, any, member, join, eachAt, allAt, same, within}
 use Rattle.words.specs.Bytes.{byte}
 use Rattle.words.proofs.BoolLaws.{both, and-intro, same-test, by-test}
 
@@ -131,6 +131,28 @@ unfolding all
 all-append f [] r = refl
 all-append f (x ∷ l) r = ap (λ (b : Bool). f x && b) (all-append f l r) ∙ sym (and-assoc (f x) (all f l) (all f r))
 
+-- ---- any
+
+-- a number of a list that passes a test
+pub record Passing (f : ℕ → Bool) (l : List ℕ) : Type 0 where
+  pub number : ℕ
+  pub listed : member number l ≡ true
+  pub passes : f number ≡ true
+
+pub any-true : (f : ℕ → Bool) (l : List ℕ) → any f l ≡ true → Passing f l
+unfolding any
+any-true f [] e = absurd (false≢true e)
+any-true f (x ∷ l) e =
+    by-test (f x) (λ p. record { number = x; listed = member-head x l; passes = p })
+    (λ p.
+    let r = any-true f l (rw p at e) in
+    record { number = r .number; listed = member-tail (r .number) x l (r .listed); passes = r .passes })
+
+pub true-any : (f : ℕ → Bool) (l : List ℕ) (x : ℕ) → member x l ≡ true → f x ≡ true → any f l ≡ true
+unfolding any member
+true-any f [] x m p = m
+true-any f (y ∷ l) x m p = by-test (eqb x y) (λ e. rw (← eqb-true x y e, p)) (λ e. rw (true-any f l x (rw e at m) p) (or-true (f y)))
+
 -- ---- count
 
 pub length-count : (i n : ℕ) → length (count i n) ≡ n
@@ -166,6 +188,12 @@ map-from f d i (suc n) (suc k) h = let e : i + suc k ≡ suc i + k = omega arith
 -- a function's values at 0, 1, ..
 pub map-count : {A : Type 0} (f : ℕ → A) (d : A) (n k : ℕ) → k < n → getD (map f (count 0 n)) k d ≡ f k
 map-count f d n k h = map-from f d 0 n k h ∙ ap f (zero-add k)
+
+-- are a list with these elements
+pub map-listed : {A : Type 0} (f : ℕ → A) (d : A) (l : List A) (n : ℕ) → length l ≡ n → ((k : ℕ) → k < n → f k ≡ getD l k d) → map f (count 0 n) ≡ l
+map-listed f d l n e h =
+    let size : length (map f (count 0 n)) ≡ n = length-map (count 0 n) f ∙ length-count 0 n in
+    ext-getD d (map f (count 0 n)) l (size ∙ sym e) (λ k j. let i : k < n = omega arith in map-count f d n k i ∙ h k i)
 
 -- a test that passes at each number below n
 pub all-below : (f : ℕ → Bool) (n k : ℕ) → all f (count 0 n) ≡ true → k < n → f k ≡ true
@@ -315,10 +343,34 @@ join-append f [] r = refl
 join-append f (x ∷ l) r = ap (λ (m : List ℕ). f x ++ m) (join-append f l r) ∙ sym (append-assoc (f x) (join f l) (join f r))
 
 -- the same parts
-pub join-same : (f g : ℕ → List ℕ) (l : List ℕ) → ((x : ℕ) → f x ≡ g x) → join f l ≡ join g l
+pub join-members : (f g : ℕ → List ℕ) (l : List ℕ) → Holds (λ x. f x ≡ g x) l → join f l ≡ join g l
 unfolding join
-join-same f g [] h = refl
-join-same f g (x ∷ l) h = ap₂ _++_ (h x) (join-same f g l h)
+join-members f g [] h = refl
+join-members f g (x ∷ l) h = ap₂ _++_ (holds-head (λ x. f x ≡ g x) x l h) (join-members f g l (holds-tail (λ x. f x ≡ g x) x l h))
+
+pub join-same : (f g : ℕ → List ℕ) (l : List ℕ) → ((x : ℕ) → f x ≡ g x) → join f l ≡ join g l
+join-same f g l h = join-members f g l (λ x _. h x)
+
+-- empty parts
+pub join-empty : (f : ℕ → List ℕ) (l : List ℕ) → Holds (λ x. f x ≡ []) l → join f l ≡ []
+unfolding join
+join-empty f [] h = refl
+join-empty f (x ∷ l) h = rw (holds-head (λ x. f x ≡ []) x l h) (join-empty f l (holds-tail (λ x. f x ≡ []) x l h))
+
+-- of some numbers one at most gives something
+pub join-one : (f : ℕ → List ℕ) (v i n : ℕ) → ((x : ℕ) → (x ≡ v → ⊥) → f x ≡ []) → i ≤ v → v < i + n → join f (count i n) ≡ f v
+unfolding join count
+join-one f v i zero h a b = absurd (omega arith)
+join-one f v i (suc n) h a b =
+    by-test (eqb v i)
+    (λ e.
+    let q : v ≡ i = eqb-true v i e in
+    let r : join f (count (suc i) n) ≡ [] =
+    join-empty f (count (suc i) n) (λ x m. let p = member-count (suc i) n x m in h x (λ z. absurd (omega arith))) in
+    rw (r, q, append-nil))
+    (λ e.
+    let q : v ≡ i → ⊥ = eqb-false v i e in
+    rw (h i (λ p. q (sym p))) (join-one f v (suc i) n h (omega (arith, q)) (omega arith)))
 
 pub join-map : (f : ℕ → List ℕ) (g : ℕ → ℕ) (l : List ℕ) → join f (map g l) ≡ join (λ j. f (g j)) l
 unfolding join

@@ -19,6 +19,11 @@ unfoldable pub all : (ℕ → Bool) → List ℕ → Bool
 all f [] = true
 all f (x ∷ l) = f x && all f l
 
+-- one of them passes a test
+unfoldable pub any : (ℕ → Bool) → List ℕ → Bool
+any f [] = false
+any f (x ∷ l) = f x || any f l
+
 -- x is one of them
 unfoldable pub member : ℕ → List ℕ → Bool
 member x [] = false

@@ -5,12 +5,13 @@ use mathlib.Core.List.{List, [], _∷_}
 use Prim.Native.Nat.{ℕ, _+_, _/_, _%_, _^_, _≤_}
 use native.Mathlib.Omega.{arith}
 use lib.Dec.{ltb, eqb}
-use lib.ListN.{length, replicate, length-replicate, getD-replicate, List·getD-eq-default}
+use lib.ListN.{length, length-replicate, List·getD-eq-default}
 use lib.Pow.{pow-pos, pow-mono}
 use borrow.Author.Tests.{lt-ltb, ltb-true, ltb-false}
 use Rattle.words.specs.Lists.{count, keep, firstOf}
 use Rattle.words.specs.Bits.{bit}
 use Rattle.words.specs.Bytes.{byte, bitAt}
+use Rattle.words.proofs.ElementLaws.{all-equal}
 use Rattle.words.proofs.BitLaws.{bit-of-zero}
 use Rattle.words.proofs.BoolLaws.{and-intro, by-test}
 use Rattle.words.proofs.ListLaws.{holds-all}
@@ -123,11 +124,6 @@ module _ (c : List ℕ) (whole : broken (capabilities c) ≡ false) (structures 
 
 -- ---- a started card is sound
 
-no-pending : (n i : ℕ) → byte (replicate n 0) i ≡ 0
-no-pending n i =
-    by-test (ltb i n) (λ e. getD-replicate n i 0 0 (ltb-true i n e))
-    (λ e. List·getD-eq-default (replicate n 0) 0 (omega (arith, length-replicate {A = ℕ} n 0, ltb-false i n e)))
-
 module _ (g : Given) (ok : startRefusal g ≡ 0) where
   a : Accepts g
   a = accepts g ok
@@ -154,7 +150,7 @@ module _ (g : Given) (ok : startRefusal g ≡ 0) where
   unfolding waits pendingBit
   started-waits Pin v = refl
   started-waits Msi v = bit-of-zero v
-  started-waits Msix v = ap (λ (b : ℕ). bit b (v % 8)) (no-pending (pendingBytes (shapeOf (g .config))) (v / 8)) ∙ bit-of-zero (v % 8)
+  started-waits Msix v = ap (λ (b : ℕ). bit b (v % 8)) (all-equal (pendingBytes (shapeOf (g .config))) (v / 8) 0) ∙ bit-of-zero (v % 8)
 
   few : waitsBelow (shapeOf (g .config)) u ≡ true
   unfolding waitsBelow

@@ -1,6 +1,5 @@
 -- Request [4]: what a switch with requester ID 0107h sends upstream, call by call from a fresh switch. Assumes nothing.
 use mathlib.Core.List.{List, [], _∷_, _++_}
-use Prim.Native.Nat.{ℕ}
 use lib.ListN.{replicate}
 use Rattle.switch.specs.Calls.{pass, down}
 use Rattle.switch.specs.Examples.Trials.{Step, wirePacket, shortMessage, longMessage, wireFrom, goesDown, sent}

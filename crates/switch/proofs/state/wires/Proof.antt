@@ -3,7 +3,7 @@ use native.Mathlib.Omega.{arith}
 use lib.ListN.{length}
 use Rattle.switch.specs.declared.Port.{Port}
 use Rattle.switch.specs.Switches.{idle}
-use Rattle.switch.proofs.JoinLaws.{element}
+use Rattle.words.proofs.ElementLaws.{element}
 use borrow.Author.Needs.{needs}
 use Rattle.switch.proofs.state.wires.Statement.{statement}
 use Rattle.switch.proofs.state.wires.Tie as tie
