@@ -1,0 +1,160 @@
+-- A record over an output of 40,976 bytes: it is never refused with 6, and the output's contents do not matter. Assumes nothing.
+use mathlib.Core.Path.{_≡_, refl, sym, ap, _∙_, subst}
+use mathlib.Core.Bool.{Bool, true, false, not}
+use mathlib.Core.List.{List, [], _∷_, _++_}
+use Prim.Native.Nat.{ℕ, _≤_, _<_}
+use native.Mathlib.Omega.{arith}
+use lib.Dec.{eqb}
+use lib.ListN.{length, drop, replicate, length-replicate}
+use lib.Seq.{take-append-seam}
+use borrow.Author.Tests.{eqb-true, ne-eqb, not-false}
+use Rattle.words.specs.Lists.{firstOf}
+use Rattle.words.proofs.BoolLaws.{by-test, passed, row-passes, row-refuses}
+use Rattle.model.specs.declared.Answer.the-variants.{Refused}
+use Rattle.model.specs.Answers.{refusalOf}
+use Rattle.model.specs.World.{World}
+use Rattle.model.specs.Sound.{sound}
+use Rattle.model.specs.Trials.{wroteBytes}
+use Rattle.model.specs.Calls.{Call, Outcome, step, rows, next, changed, sends, answerOf, outputOf, isSave, earlierRefusal, accepted, refused}
+use Rattle.model.proofs.Calls.CallLaws.{step-unsound, step-sound, performed-row, performed-accepted}
+use Rattle.model.proofs.Refusals.{room-exact}
+use Rattle.model.proofs.BytesBound.{bytes-bound}
+use Rattle.log.specs.declared.Record.{Record}
+use Rattle.log.specs.declared.Record.the-variants.{Event, Line, ConfigWrite, BarWrite, Reset}
+use Rattle.log.specs.Logs.{callOf}
+use Rattle.log.specs.Players.{Performed}
+use Rattle.log.specs.Cards.{shown, onCard, spare}
+
+-- ---- what does not depend on the output
+
+module _ (w : World) (out out′ : List ℕ) where
+  pub same-earlier : (r : Record) → earlierRefusal w (callOf r out) ≡ earlierRefusal w (callOf r out′)
+  unfolding callOf earlierRefusal rows
+  same-earlier (Event e) = refl
+  same-earlier (Line level) = refl
+  same-earlier (ConfigWrite o n x) = refl
+  same-earlier (BarWrite b o n x) = refl
+  same-earlier Reset = refl
+
+  pub same-next : (r : Record) → next w (callOf r out) ≡ next w (callOf r out′)
+  unfolding callOf next changed
+  same-next (Event e) = refl
+  same-next (Line level) = refl
+  same-next (ConfigWrite o n x) = refl
+  same-next (BarWrite b o n x) = refl
+  same-next Reset = refl
+
+  pub same-sends : (r : Record) → sends w (callOf r out) ≡ sends w (callOf r out′)
+  unfolding callOf sends changed
+  same-sends (Event e) = refl
+  same-sends (Line level) = refl
+  same-sends (ConfigWrite o n x) = refl
+  same-sends (BarWrite b o n x) = refl
+  same-sends Reset = refl
+
+  pub same-answer : (r : Record) → answerOf (w .endpoint) (callOf r out) ≡ answerOf (w .endpoint) (callOf r out′)
+  unfolding callOf answerOf
+  same-answer (Event e) = refl
+  same-answer (Line level) = refl
+  same-answer (ConfigWrite o n x) = refl
+  same-answer (BarWrite b o n x) = refl
+  same-answer Reset = refl
+
+pub lent : (r : Record) (out : List ℕ) → outputOf (callOf r out) ≡ out
+unfolding callOf
+lent (Event e) out = refl
+lent (Line level) out = refl
+lent (ConfigWrite o n x) out = refl
+lent (BarWrite b o n x) out = refl
+lent Reset out = refl
+
+no-save : (r : Record) (out : List ℕ) → isSave (callOf r out) ≡ false
+unfolding callOf isSave
+no-save (Event e) out = refl
+no-save (Line level) out = refl
+no-save (ConfigWrite o n x) out = refl
+no-save (BarWrite b o n x) out = refl
+no-save Reset out = refl
+
+-- ---- the two ways out of a call with room
+
+pub roomy : (w : World) (c : Call) → earlierRefusal w c ≡ 0 → length (sends w c) ≤ length (outputOf c)
+    → step w c ≡ accepted (next w c) (answerOf (w .endpoint) c) (sends w c) (outputOf c)
+unfolding earlierRefusal
+roomy w c e h =
+    let p : (not (sound w) ≡ false) × (firstOf (rows (w .endpoint) c) ≡ 0) = passed 1 (rows (w .endpoint) c) refl e in
+    step-sound w c (not-false (sound w) (p .0)) ∙ performed-accepted w c (p .1) h
+
+pub refused-so : (w : World) (c : Call) → eqb (earlierRefusal w c) 0 ≡ false → step w c ≡ refused w (earlierRefusal w c) (outputOf c)
+unfolding earlierRefusal
+refused-so w c e = by-test (sound w) isSound unsound
+  where
+    own : ℕ
+    own = firstOf (rows (w .endpoint) c)
+
+    unsound : sound w ≡ false → step w c ≡ refused w (earlierRefusal w c) (outputOf c)
+    unsound s = step-unsound w c s ∙ ap (λ (n : ℕ). refused w n (outputOf c)) (sym (row-refuses 1 (rows (w .endpoint) c) (ap not s)))
+
+    isSound : sound w ≡ true → step w c ≡ refused w (earlierRefusal w c) (outputOf c)
+    isSound s =
+        let same : earlierRefusal w c ≡ own = row-passes 1 (rows (w .endpoint) c) (ap not s) in
+        step-sound w c s ∙ performed-row w c own refl (ap (λ (n : ℕ). eqb n 0) (sym same) ∙ e) ∙ ap (λ (n : ℕ). refused w n (outputOf c)) (sym same)
+
+-- no record makes more than 40,976 bytes
+fits-all : (w : World) (r : Record) (out : List ℕ) → earlierRefusal w (callOf r out) ≡ 0 → length (sends w (callOf r out)) ≤ 40976
+fits-all w r out e =
+    subst (λ (l : List ℕ). length l ≤ 40976) (same-sends w big out r)
+    (subst (λ (o : Outcome). o .count ≤ 40976) (roomy w (callOf r big) (same-earlier w big out r ∙ e) large) (bytes-bound w (callOf r big) (no-save r big)))
+  where
+    big : List ℕ
+    big = replicate (length (sends w (callOf r out))) 0
+
+    large : length (sends w (callOf r big)) ≤ length (outputOf (callOf r big))
+    large = rw (lent r big, length-replicate {A = ℕ} (length (sends w (callOf r out))) 0, same-sends w big out r) (omega arith)
+
+-- a record over an output of 40,976 bytes
+module _ (w : World) (r : Record) (out : List ℕ) (l : length out ≡ 40976) where
+  abbrev accepts : Performed World
+  accepts = record { world = next w (callOf r out); answer = answerOf (w .endpoint) (callOf r out); bytes = sends w (callOf r out) }
+
+  pub card-yes : earlierRefusal w (callOf r out) ≡ 0 → onCard out w r ≡ accepts
+  unfolding onCard
+  card-yes e =
+      ap shown (roomy w (callOf r out) e (rw (lent r out, l) (fits-all w r out e)))
+      ∙ ap (λ (b : List ℕ). record { world = next w (callOf r out); answer = answerOf (w .endpoint) (callOf r out); bytes = b })
+      (take-append-seam (sends w (callOf r out)) (drop (length (sends w (callOf r out))) (outputOf (callOf r out))))
+
+  pub card-no : eqb (earlierRefusal w (callOf r out)) 0 ≡ false → onCard out w r ≡ record { world = w; answer = Refused (earlierRefusal w (callOf r out)); bytes = [] }
+  unfolding onCard
+  card-no e = ap shown (refused-so w (callOf r out) e)
+
+-- the contents of the output do not matter
+pub card-same : (out out′ : List ℕ) → length out ≡ 40976 → length out′ ≡ 40976 → (w : World) (r : Record) → onCard out w r ≡ onCard out′ w r
+card-same out out′ l l′ w r = by-test (eqb (earlierRefusal w (callOf r out)) 0) yes no
+  where
+    yes : eqb (earlierRefusal w (callOf r out)) 0 ≡ true → onCard out w r ≡ onCard out′ w r
+    yes z =
+        let e : earlierRefusal w (callOf r out) ≡ 0 = eqb-true (earlierRefusal w (callOf r out)) 0 z in
+        card-yes w r out l e
+        ∙ (λ i. record { world = same-next w out out′ r i; answer = same-answer w out out′ r i; bytes = same-sends w out out′ r i })
+        ∙ sym (card-yes w r out′ l′ (same-earlier w out′ out r ∙ e))
+
+    no : eqb (earlierRefusal w (callOf r out)) 0 ≡ false → onCard out w r ≡ onCard out′ w r
+    no z =
+        card-no w r out l z
+        ∙ ap (λ (n : ℕ). record { world = w; answer = Refused n; bytes = [] }) (same-earlier w out out′ r)
+        ∙ sym (card-no w r out′ l′ (ap (λ (n : ℕ). eqb n 0) (same-earlier w out′ out r) ∙ z))
+
+-- 6 is no answer
+pub card-never : (out : List ℕ) → length out ≡ 40976 → (w : World) (r : Record) → eqb (refusalOf (onCard out w r .answer)) 6 ≡ false
+unfolding onCard
+card-never out l w r = ne-eqb (refusalOf (step w (callOf r out) .answer)) 6 (λ e. fit (room-exact w (callOf r out) .0 e))
+  where
+    fit : (earlierRefusal w (callOf r out) ≡ 0) × (length (outputOf (callOf r out)) < length (sends w (callOf r out))) → ⊥
+    fit p =
+        let shorter : 40976 < length (sends w (callOf r out)) = subst (λ (n : ℕ). n < length (sends w (callOf r out))) (ap length (lent r out) ∙ l) (p .1) in
+        absurd (omega (arith, shorter, fits-all w r out (p .0)))
+
+pub spare-length : length spare ≡ 40976
+unfolding spare
+spare-length = length-replicate {A = ℕ} 40976 0
