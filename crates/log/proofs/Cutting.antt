@@ -13,8 +13,12 @@ use Rattle.log.specs.declared.Player.{Player}
 use Rattle.log.specs.declared.Stage.{Stage}
 use Rattle.log.specs.declared.Stage.the-variants.{Header, Records, Again, Broken}
 use Rattle.log.specs.Logs.{recordIn}
-use Rattle.log.specs.Players.{Performed, Played, Scanned, End, more, whole, wrong, further, scan, fits, with, complete, counted, broken, between, onward, tried, ended, stopped, resumed, playOf, isPlaying}
-use Rattle.log.specs.Cuttings.{Whole, Lent, no-call, one-more, Piece, Playing, preceded, wholeOf, noted, pieced, piecedAll, begun, IsOver, playedBy}
+use Rattle.log.specs.declared.End.{End}
+use Rattle.log.specs.declared.End.the-variants.{More, Whole, Wrong}
+use Rattle.log.specs.declared.Scanned.{Scanned}
+use Rattle.log.specs.Players.{further, scan, fits, with, complete, counted, broken, between, stopped, scanned, resumed, advanced, isPlaying}
+use Rattle.log.specs.Plays.{Performed, Played, onward, tried, idle, made, playOf}
+use Rattle.log.specs.Cuttings.{Trial, Lent, no-call, one-more, Piece, Playing, preceded, wholeOf, noted, pieced, piecedAll, begun, IsOver, playedBy}
 use Rattle.log.proofs.Reading.{Reads, reading, with-reads, scan-taken}
 
 drop-more : (n : ℕ) (l r : List ℕ) → n ≤ length l → drop n l ++ r ≡ drop n (l ++ r)
@@ -32,33 +36,36 @@ broken-whole perform p w (b ∷ l) = refl
 -- ---- one call
 
 module _ {W : Type 0} (perform : W → Record → Performed W) (never : (w : W) (r : Record) → eqb (refusalOf (perform w r .answer)) 6 ≡ false) where
+  abbrev ended : Scanned → End → W → Played W
+  ended s e w = made perform (scanned s e) w
+
   abbrev call : Player → W → List ℕ → Played W
-  call p w l = ended perform (scan p l) (scan p l .end) w
+  call p w l = ended (scan p l) (scan p l .end) w
 
   -- a scan's result, and then what is left
-  abbrev after : W → (l r : List ℕ) → Scanned → End → Whole W
+  abbrev after : W → (l r : List ℕ) → Scanned → End → Trial W
   after w l r s e =
-      preceded (noted (ended perform s e w .result)) (wholeOf perform (ended perform s e w .player) (ended perform s e w .world) (drop (ended perform s e w .taken) l ++ r))
+      preceded (noted (ended s e w .result)) (wholeOf perform (ended s e w .player) (ended s e w .world) (drop (ended s e w .taken) l ++ r))
 
   after-further : (w : W) (b : ℕ) (l r : List ℕ) (s : Scanned) (e : End) → after w l r s e ≡ after w (b ∷ l) r (further s) e
-  unfolding ended tried
-  after-further w b l r s more = refl
-  after-further w b l r s whole = refl
-  after-further w b l r s wrong = refl
+  unfolding scanned made tried
+  after-further w b l r s More = refl
+  after-further w b l r s Whole = refl
+  after-further w b l r s Wrong = refl
 
   after-whole : (w : W) (b : ℕ) (l r : List ℕ) (q : Player)
       → preceded (perform w (recordIn (q .part)) ∷ []) (wholeOf perform (between (counted (q .number))) (perform w (recordIn (q .part)) .world) (l ++ r))
-      ≡ after w (b ∷ l) r (record { player = q; taken = 1; end = whole }) whole
-  unfolding ended tried onward
+      ≡ after w (b ∷ l) r (record { player = q; taken = 1; end = Whole }) Whole
+  unfolding scanned made tried onward
   after-whole w b l r q = rw (never w (recordIn (q .part)))
 
   after-wrong : (w : W) (b : ℕ) (l r : List ℕ) (p : Player)
-      → record { results = []; player = broken p; world = w } ≡ after w (b ∷ l) r (record { player = broken p; taken = 0; end = wrong }) wrong
-  unfolding ended
+      → record { results = []; player = broken p; world = w } ≡ after w (b ∷ l) r (record { player = broken p; taken = 0; end = Wrong }) Wrong
+  unfolding scanned made
   after-wrong w b l r p = sym (broken-whole perform p w (b ∷ l ++ r))
 
   after-cond : (w : W) (b : ℕ) (l r : List ℕ) (p q : Player) (s : Scanned) (f c : Bool) → wholeOf perform q w (l ++ r) ≡ after w l r s (s .end)
-      → let t : Scanned = cond f (cond c (record { player = q; taken = 1; end = whole }) (further s)) (record { player = broken p; taken = 0; end = wrong }) in
+      → let t : Scanned = cond f (cond c (record { player = q; taken = 1; end = Whole }) (further s)) (record { player = broken p; taken = 0; end = Wrong }) in
       cond f
       (cond c
       (preceded (perform w (recordIn (q .part)) ∷ []) (wholeOf perform (between (counted (q .number))) (perform w (recordIn (q .part)) .world) (l ++ r)))
@@ -71,7 +78,7 @@ module _ {W : Type 0} (perform : W → Record → Performed W) (never : (w : W) 
 
   -- what is played in a call, and then what is left, is the whole
   one-call : (p : Player) (w : W) (l r : List ℕ) → wholeOf perform p w (l ++ r) ≡ after w l r (scan p l) (scan p l .end)
-  unfolding scan ended wholeOf
+  unfolding scan scanned made wholeOf
   one-call p w [] r = refl
   one-call p w (b ∷ l) r = after-cond w b l r p (with p b) (scan (with p b) l) (fits p b) (complete (with p b)) (one-call (with p b) w l r)
 
@@ -81,49 +88,49 @@ module _ {W : Type 0} (perform : W → Record → Performed W) (never : (w : W) 
   Live p = Reads p ⊎ (p ≡ broken p)
 
   reads-call : (p : Player) (w : W) (l : List ℕ) → Reads p → playOf perform p w l ≡ call p w l
-  unfolding playOf resumed reading
+  unfolding playOf advanced resumed reading
   reads-call p w l k = rw (k .playing) (go (p .stage) (k .stage))
     where
-      go : (s : Stage) → reading s ≡ true → resumed perform s p w l ≡ call p w l
+      go : (s : Stage) → reading s ≡ true → made perform (resumed s p l) w ≡ call p w l
       go Header e = refl
       go Records e = refl
       go Again e = absurd (false≢true e)
       go Broken e = absurd (false≢true e)
 
-  broken-call : (p : Player) (w : W) (l : List ℕ) → playOf perform (broken p) w l ≡ stopped perform (broken p) w
-  unfolding playOf isPlaying
+  broken-call : (p : Player) (w : W) (l : List ℕ) → playOf perform (broken p) w l ≡ idle perform (stopped (broken p)) w
+  unfolding playOf advanced made isPlaying
   broken-call p w l = refl
 
   -- after a scan
-  live-further : (w : W) (s : Scanned) (e : End) → Live (ended perform s e w .player) → Live (ended perform (further s) e w .player)
-  unfolding ended tried
-  live-further w s more h = h
-  live-further w s whole h = h
-  live-further w s wrong h = h
+  live-further : (w : W) (s : Scanned) (e : End) → Live (ended s e w .player) → Live (ended (further s) e w .player)
+  unfolding scanned made tried
+  live-further w s More h = h
+  live-further w s Whole h = h
+  live-further w s Wrong h = h
 
-  live-whole : (w : W) (q : Player) (n : ℕ) → Live (ended perform (record { player = q; taken = n; end = whole }) whole w .player)
-  unfolding ended tried onward reading isPlaying
+  live-whole : (w : W) (q : Player) (n : ℕ) → Live (ended (record { player = q; taken = n; end = Whole }) Whole w .player)
+  unfolding scanned made tried onward reading isPlaying
   live-whole w q n = rw (never w (recordIn (q .part))) (inl (record { stage = refl; playing = refl; room = refl }))
 
-  live-cond : (w : W) (p q : Player) (s : Scanned) (f c : Bool) → (f ≡ true → c ≡ false → Live (ended perform s (s .end) w .player))
-      → let t : Scanned = cond f (cond c (record { player = q; taken = 1; end = whole }) (further s)) (record { player = broken p; taken = 0; end = wrong }) in
-      Live (ended perform t (t .end) w .player)
-  unfolding ended
+  live-cond : (w : W) (p q : Player) (s : Scanned) (f c : Bool) → (f ≡ true → c ≡ false → Live (ended s (s .end) w .player))
+      → let t : Scanned = cond f (cond c (record { player = q; taken = 1; end = Whole }) (further s)) (record { player = broken p; taken = 0; end = Wrong }) in
+      Live (ended t (t .end) w .player)
+  unfolding scanned made
   live-cond w p q s true true h = live-whole w q 1
   live-cond w p q s true false h = live-further w s (s .end) (h refl refl)
   live-cond w p q s false c h = inr refl
 
-  live-ended : (w : W) (p : Player) (l : List ℕ) → Reads p → Live (ended perform (scan p l) (scan p l .end) w .player)
-  unfolding scan ended
+  live-ended : (w : W) (p : Player) (l : List ℕ) → Reads p → Live (ended (scan p l) (scan p l .end) w .player)
+  unfolding scan scanned made
   live-ended w p [] k = inl k
   live-ended w p (b ∷ l) k =
       live-cond w p (with p b) (scan (with p b) l) (fits p b) (complete (with p b)) (λ f c. live-ended w (with p b) l (with-reads p b k f c))
 
-  ended-taken : (w : W) (s : Scanned) (e : End) → ended perform s e w .taken ≡ s .taken
-  unfolding ended tried
-  ended-taken w s more = refl
-  ended-taken w s whole = refl
-  ended-taken w s wrong = refl
+  ended-taken : (w : W) (s : Scanned) (e : End) → ended s e w .taken ≡ s .taken
+  unfolding scanned made tried
+  ended-taken w s More = refl
+  ended-taken w s Whole = refl
+  ended-taken w s Wrong = refl
 
 -- ---- every cutting
 
@@ -132,7 +139,7 @@ module _ {W : Type 0} (perform : List ℕ → W → Record → Performed W) (bas
     (never : (w : W) (r : Record) → eqb (refusalOf (base w r .answer)) 6 ≡ false)
     (n : ℕ) (same : (out : List ℕ) → length out ≡ n → perform out ≡ base) where
   -- what was played, and then what is left
-  abbrev total : Playing W → Whole W
+  abbrev total : Playing W → Trial W
   total x = preceded (x .results) (wholeOf base (x .player) (x .world) (x .rest))
 
   record Kept (x y : Playing W) : Type 0 where
@@ -147,7 +154,7 @@ module _ {W : Type 0} (perform : List ℕ → W → Record → Performed W) (bas
   unfolding pieced
   pieced-is x piece r = ap (λ (f : W → Record → Performed W). onto x (playOf f (x .player) (x .world) (take (piece .size) (x .rest)))) (same (piece .out) r)
 
-  preceded-append : (a b : List (Performed W)) (y : Whole W) → preceded (a ++ b) y ≡ preceded a (preceded b y)
+  preceded-append : (a b : List (Performed W)) (y : Trial W) → preceded (a ++ b) y ≡ preceded a (preceded b y)
   preceded-append a b y = ap (λ (l : List (Performed W)). record { results = l; player = y .player; world = y .world }) (append-assoc a b (y .results))
 
   kept-reads : (x : Playing W) (m : ℕ) → Reads (x .player) → Kept x (onto x (call base never (x .player) (x .world) (take m (x .rest))))
@@ -177,8 +184,8 @@ module _ {W : Type 0} (perform : List ℕ → W → Record → Performed W) (bas
       subst (λ (y : Playing W). Kept x y) (sym (pieced-is x piece r ∙ ap (onto x) still))
       (record { live = inr b; whole = ap (λ (l : List (Performed W)). preceded l (wholeOf base (x .player) (x .world) (x .rest))) (append-nil (x .results)) })
     where
-      still : playOf base (x .player) (x .world) (take (piece .size) (x .rest)) ≡ stopped base (x .player) (x .world)
-      still = subst (λ (p : Player). playOf base p (x .world) (take (piece .size) (x .rest)) ≡ stopped base p (x .world)) (sym b) (broken-call base never (x .player) (x .world) (take (piece .size) (x .rest)))
+      still : playOf base (x .player) (x .world) (take (piece .size) (x .rest)) ≡ idle base (stopped (x .player)) (x .world)
+      still = subst (λ (p : Player). playOf base p (x .world) (take (piece .size) (x .rest)) ≡ idle base (stopped p) (x .world)) (sym b) (broken-call base never (x .player) (x .world) (take (piece .size) (x .rest)))
 
   kept-all : (x : Playing W) (pieces : List Piece) → Lent n pieces → Live base never (x .player) → Kept x (piecedAll perform x pieces)
   unfolding piecedAll

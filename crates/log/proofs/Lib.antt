@@ -6,3 +6,6 @@ pub mod EveryCutting
 pub mod Replays
 pub mod OneCall
 pub mod PlayerCalls
+pub mod ScanLaws
+pub mod FormatLaws
+pub mod PlayerLaws

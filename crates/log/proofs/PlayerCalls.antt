@@ -16,7 +16,8 @@ use Rattle.model.proofs.WaitingHistory.{waiting-history}
 use Rattle.log.specs.declared.Record.{Record}
 use Rattle.log.specs.declared.Player.{Player}
 use Rattle.log.specs.Logs.{callOf}
-use Rattle.log.specs.Players.{Performed, playedRecord, worldBy}
+use Rattle.log.specs.Players.{playedRecord}
+use Rattle.log.specs.Plays.{Performed, worldBy}
 use Rattle.log.specs.Cards.{onCard, Action, direct, play, Host, told, acted, actedAll, hostOf, callsOf, callsBy, callsMade}
 use Rattle.log.proofs.OneCall.{performs, Performs}
 

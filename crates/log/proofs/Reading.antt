@@ -15,7 +15,9 @@ use Rattle.log.specs.declared.Player.{Player}
 use Rattle.log.specs.declared.Stage.{Stage}
 use Rattle.log.specs.declared.Stage.the-variants.{Header, Records, Again, Broken}
 use Rattle.log.specs.Logs.{header, sizeOf}
-use Rattle.log.specs.Players.{Scanned, whole, wrong, further, scan, fits, with, complete, broken, playerOf, isPlaying}
+use Rattle.log.specs.declared.End.the-variants.{More, Whole, Wrong}
+use Rattle.log.specs.declared.Scanned.{Scanned}
+use Rattle.log.specs.Players.{further, scan, fits, fitsRecord, with, complete, broken, playerOf, isPlaying}
 
 -- ---- players that read on
 
@@ -45,7 +47,7 @@ size-le k = rest (eqb k 1) (eqb k 2) (eqb k 3) (eqb k 4) (eqb k 5)
 
 -- one more byte that fits and does not complete a record
 pub with-reads : (p : Player) (b : ℕ) → Reads p → fits p b ≡ true → complete (with p b) ≡ false → Reads (with p b)
-unfolding fits with complete isPlaying reading
+unfolding fits fitsRecord with complete isPlaying reading
 with-reads p b r f c = go (p .stage) (p .taken) (p .part) (p .number) (r .stage) (r .playing) (r .room) f c
   where
     go : (s : Stage) (t : ℕ) (part : List ℕ) (n : ℕ) → reading s ≡ true → isPlaying s t part ≡ true → length part ≡ 15
@@ -79,7 +81,7 @@ with-reads p b r f c = go (p .stage) (p .taken) (p .part) (p .number) (r .stage)
 -- ---- no more is taken than there is
 
 cond-taken : (f c : Bool) (p q : Player) (s : Scanned) (n : ℕ) → s .taken ≤ n
-    → cond f (cond c (record { player = q; taken = 1; end = whole }) (further s)) (record { player = p; taken = 0; end = wrong }) .taken ≤ suc n
+    → cond f (cond c (record { player = q; taken = 1; end = Whole }) (further s)) (record { player = p; taken = 0; end = Wrong }) .taken ≤ suc n
 cond-taken true true p q s n h = omega arith
 cond-taken true false p q s n h = omega (arith, h)
 cond-taken false c p q s n h = omega arith

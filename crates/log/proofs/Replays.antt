@@ -22,8 +22,9 @@ use Rattle.model.proofs.Calls.CallLaws.{step-elim}
 use Rattle.log.specs.declared.Record.{Record}
 use Rattle.log.specs.declared.Record.the-variants.{Event, Line, ConfigWrite, BarWrite, Reset}
 use Rattle.log.specs.Logs.{Fits, FitsIn, AllFit, no-more, one-more, header, callOf, recordOf, bytesIn}
-use Rattle.log.specs.Players.{Performed, fresh, between, counted}
-use Rattle.log.specs.Cuttings.{Whole, preceded, wholeOf}
+use Rattle.log.specs.Players.{fresh, between, counted}
+use Rattle.log.specs.Plays.{Performed}
+use Rattle.log.specs.Cuttings.{Trial, preceded, wholeOf}
 use Rattle.log.specs.Cards.{shown, onCard, spare}
 use Rattle.log.specs.Recorder.{isKept, logged, loggedCall, loggedAll, logOf, isRecorded, given, numbered, left}
 use Rattle.log.proofs.Room.{card-yes, card-no, roomy, refused-so, same-earlier, same-next, same-answer, same-sends, lent, spare-length}
@@ -74,7 +75,7 @@ not-kept w c e =
     let q : refusalOf (step w c .answer) ≡ 6 = eqb-true (refusalOf (step w c .answer)) 6 (not-false (eqb (refusalOf (step w c .answer)) 6) e) in
     refused-unchanged w c (not-accepted (step w c .answer) (λ z. absurd (omega (arith, q, z)))) .world
 
-abbrev after : (number : ℕ) → World → List Call → Whole World
+abbrev after : (number : ℕ) → World → List Call → Trial World
 after n w cs = record { results = given w cs; player = between (numbered n w cs); world = left w cs }
 
 module _ (n : ℕ) (w : World) (cs : List Call) (rest : (m : ℕ) (v : World) → wholeOf (onCard spare) (between m) v (loggedAll v cs) ≡ after m v cs) where

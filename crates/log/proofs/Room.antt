@@ -22,7 +22,7 @@ use Rattle.model.proofs.BytesBound.{bytes-bound}
 use Rattle.log.specs.declared.Record.{Record}
 use Rattle.log.specs.declared.Record.the-variants.{Event, Line, ConfigWrite, BarWrite, Reset}
 use Rattle.log.specs.Logs.{callOf}
-use Rattle.log.specs.Players.{Performed}
+use Rattle.log.specs.Plays.{Performed}
 use Rattle.log.specs.Cards.{shown, onCard, spare}
 
 -- ---- what does not depend on the output

@@ -10,7 +10,8 @@ use Rattle.model.specs.History.{Past, Run, called, entryOf}
 use Rattle.log.specs.declared.Record.{Record}
 use Rattle.log.specs.declared.Player.{Player}
 use Rattle.log.specs.Logs.{callOf}
-use Rattle.log.specs.Players.{Performed, Played, playOf, playedRecord}
+use Rattle.log.specs.Players.{playedRecord}
+use Rattle.log.specs.Plays.{Performed, Played, playOf}
 
 -- what a call gave, its packets without the rest of the output
 abbrev pub shown : Outcome → Performed World

@@ -9,10 +9,11 @@ use lib.ListN.{length, take, drop}
 use Rattle.log.specs.declared.Record.{Record}
 use Rattle.log.specs.declared.Player.{Player}
 use Rattle.log.specs.Logs.{recordIn}
-use Rattle.log.specs.Players.{Performed, Played, between, broken, counted, fits, with, complete, playOf}
+use Rattle.log.specs.Players.{between, broken, counted, fits, with, complete}
+use Rattle.log.specs.Plays.{Performed, Played, playOf}
 
 -- what each record gave, in order, and player and card at the end
-pub record Whole (W : Type 0) : Type 0 where
+pub record Trial (W : Type 0) : Type 0 where
   pub results : List (Performed W)
   pub player : Player
   pub world : W
@@ -35,11 +36,11 @@ pub record Playing (W : Type 0) : Type 0 where
   pub results : List (Performed W)
 
 module _ {W : Type 0} where
-  abbrev pub preceded : List (Performed W) → Whole W → Whole W
+  abbrev pub preceded : List (Performed W) → Trial W → Trial W
   preceded rs x = record { results = rs ++ x .results; player = x .player; world = x .world }
 
   -- byte by byte, each record performed as it is complete, up to the first wrong byte
-  unfoldable pub wholeOf : (W → Record → Performed W) → Player → W → (log : List ℕ) → Whole W
+  unfoldable pub wholeOf : (W → Record → Performed W) → Player → W → (log : List ℕ) → Trial W
   wholeOf perform p w [] = record { results = []; player = p; world = w }
   wholeOf perform p w (b ∷ l) =
       let q : Player = with p b in
@@ -72,5 +73,5 @@ module _ {W : Type 0} where
   IsOver y = (y .rest ≡ []) ⊎ (y .player ≡ broken (y .player))
 
   -- what was played
-  abbrev pub playedBy : Playing W → Whole W
+  abbrev pub playedBy : Playing W → Trial W
   playedBy y = record { results = y .results; player = y .player; world = y .world }

@@ -1,4 +1,4 @@
--- Document 02, request [1]: a player, byte by byte, and one call of it. What a record does is any function `perform`. Assumes nothing.
+-- Document 02, request [1]: a player, byte by byte, and what a call of it takes. Assumes nothing.
 use mathlib.Core.Bool.{Bool, true, false, cond, _&&_, _||_, not}
 use mathlib.Core.List.{List, [], _∷_}
 use mathlib.Core.Option.{Option, none, some}
@@ -6,12 +6,14 @@ use Prim.Native.Nat.{ℕ, suc, _^_}
 use lib.Dec.{ltb, eqb}
 use lib.ListN.{set, replicate}
 use Rattle.words.specs.Bytes.{byte}
-use Rattle.model.specs.declared.Answer.{Answer}
-use Rattle.model.specs.Answers.{refusalOf}
 use Rattle.log.specs.declared.Record.{Record}
 use Rattle.log.specs.declared.Stage.{Stage}
 use Rattle.log.specs.declared.Stage.the-variants.{Header, Records, Again, Broken}
 use Rattle.log.specs.declared.Player.{Player}
+use Rattle.log.specs.declared.End.{End}
+use Rattle.log.specs.declared.End.the-variants.{More, Whole, Wrong}
+use Rattle.log.specs.declared.Scanned.{Scanned}
+use Rattle.log.specs.declared.Advanced.{Advanced}
 use Rattle.log.specs.Logs.{header, sizeOf, recordIn}
 
 abbrev pub playerOf : Stage → (taken : ℕ) → (part : List ℕ) → (number : ℕ) → Player
@@ -42,13 +44,17 @@ isPlaying Broken taken part = false
 
 -- ---- one byte
 
--- the byte fits: it is the next one of mark and version; a kind; a level of the line; or any other byte of a record
+-- behind `taken` bytes of a record: a kind; of a line a level, 0 or 1; or any byte
+unfoldable pub fitsRecord : (taken kind b : ℕ) → Bool
+fitsRecord taken kind b = cond (eqb taken 0) (ltb 0 (sizeOf b)) (not (eqb kind 2) || ltb b 2)
+
+-- the byte fits: it is the next one of mark and version, or of a record
 unfoldable pub fits : Player → (b : ℕ) → Bool
 fits p b = by (p .stage)
   where
     by : Stage → Bool
     by Header = eqb b (byte header (p .taken))
-    by Records = cond (eqb (p .taken) 0) (ltb 0 (sizeOf b)) (not (eqb (byte (p .part) 0) 2) || ltb b 2)
+    by Records = fitsRecord (p .taken) (byte (p .part) 0) b
     by Again = false
     by Broken = false
 
@@ -74,98 +80,50 @@ complete p = by (p .stage)
 
 -- ---- "each call takes what it is given up to the end of the first complete record", or up to the first wrong byte
 
-pub data End : Type 0 where
-  more : End
-  whole : End
-  wrong : End
-
-pub record Scanned : Type 0 where
-  pub player : Player
-  pub taken : ℕ
-  pub end : End
-
 -- with one more byte taken before it
 abbrev pub further : Scanned → Scanned
 further s = record { player = s .player; taken = suc (s .taken); end = s .end }
 
 unfoldable pub scan : Player → (bytes : List ℕ) → Scanned
-scan p [] = record { player = p; taken = 0; end = more }
+scan p [] = record { player = p; taken = 0; end = More }
 scan p (b ∷ l) =
     cond (fits p b)
-    (cond (complete (with p b)) (record { player = with p b; taken = 1; end = whole }) (further (scan (with p b) l)))
-    (record { player = broken p; taken = 0; end = wrong })
+    (cond (complete (with p b)) (record { player = with p b; taken = 1; end = Whole }) (further (scan (with p b) l)))
+    (record { player = broken p; taken = 0; end = Wrong })
 
--- ---- one call
-
--- what a record gave: card and buffers after it, the answer, and the packets
-pub record Performed (W : Type 0) : Type 0 where
-  pub world : W
-  pub answer : Answer
-  pub bytes : List ℕ
-
--- what a call of the player gives: `result` is that of the record that it completed or tried again
-pub record Played (W : Type 0) : Type 0 where
-  pub player : Player
-  pub world : W
-  pub taken : ℕ
-  pub refusal : ℕ
-  pub result : Option (Performed W)
-
--- card and buffers after a call that gave this result
-abbrev pub worldBy : {W : Type 0} → Option (Performed W) → W → W
-worldBy none w = w
-worldBy (some r) w = r .world
+-- ---- what a call does before it meets the card
 
 -- one more record is complete; past 2^64 - 1 the number stays there
 unfoldable pub counted : (number : ℕ) → ℕ
 counted n = cond (ltb (suc n) (2 ^ 64)) (suc n) n
 
--- "The card's own refusals are noted and play goes on, except 6": then the same record is to be tried again
-unfoldable pub onward : Player → Answer → Player
-onward p a = cond (eqb (refusalOf a) 6) (playerOf Again (p .taken) (p .part) (p .number)) (between (p .number))
+abbrev pub advancedOf : Player → (taken refusal : ℕ) → (due : Bool) → Advanced
+advancedOf p taken refusal due = record { player = p; taken = taken; refusal = refusal; due = due }
 
-module _ {W : Type 0} (perform : W → Record → Performed W) where
-  -- the record that the player holds is performed; this call took `taken` bytes
-  unfoldable pub tried : Player → W → (taken : ℕ) → Played W
-  tried p w taken =
-      let r : Performed W = perform w (recordIn (p .part)) in
-      record { player = onward p (r .answer); world = r .world; taken = taken; refusal = 0; result = some r }
+-- after a wrong byte, and for a player that no log leaves behind: 30, and nothing changes
+abbrev pub stopped : Player → Advanced
+stopped p = advancedOf p 0 30 false
 
-  -- a call that performs no record
-  abbrev pub idle : Player → W → (taken refusal : ℕ) → Played W
-  idle p w taken refusal = record { player = p; world = w; taken = taken; refusal = refusal; result = none }
+-- a complete record is due
+unfoldable pub scanned : Scanned → End → Advanced
+scanned s More = advancedOf (s .player) (s .taken) 0 false
+scanned s Whole = advancedOf (playerOf Records (s .player .taken) (s .player .part) (counted (s .player .number))) (s .taken) 0 true
+scanned s Wrong = advancedOf (s .player) (s .taken) 30 false
 
-  unfoldable pub ended : Scanned → End → W → Played W
-  ended s more w = idle (s .player) w (s .taken) 0
-  ended s whole w = tried (playerOf Records (s .player .taken) (s .player .part) (counted (s .player .number))) w (s .taken)
-  ended s wrong w = idle (s .player) w (s .taken) 30
+-- "the next call only tries it again, taking 0 bytes"
+unfoldable pub resumed : Stage → Player → (bytes : List ℕ) → Advanced
+resumed Header p l = scanned (scan p l) (scan p l .end)
+resumed Records p l = scanned (scan p l) (scan p l .end)
+resumed Again p l = advancedOf p 0 0 true
+resumed Broken p l = stopped p
 
-  -- after a wrong byte, and for a player that no log leaves behind: 30, and nothing changes
-  abbrev pub stopped : Player → W → Played W
-  stopped p w = idle p w 0 30
+unfoldable pub advanced : Player → (bytes : List ℕ) → Advanced
+advanced p l = cond (isPlaying (p .stage) (p .taken) (p .part)) (resumed (p .stage) p l) (stopped p)
 
-  -- "the next call only tries it again, taking 0 bytes"
-  unfoldable pub resumed : Stage → Player → W → (bytes : List ℕ) → Played W
-  resumed Header p w l = ended (scan p l) (scan p l .end) w
-  resumed Records p w l = ended (scan p l) (scan p l .end) w
-  resumed Again p w l = tried p w 0
-  resumed Broken p w l = stopped p w
+-- the record that is due, if one is
+unfoldable pub dueRecord : Advanced → Option Record
+dueRecord a = cond (a .due) (some (recordIn (a .player .part))) none
 
-  unfoldable pub playOf : Player → W → (bytes : List ℕ) → Played W
-  playOf p w l = cond (isPlaying (p .stage) (p .taken) (p .part)) (resumed (p .stage) p w l) (stopped p w)
-
--- ---- the record that a call of the player performs, if it performs one
-
-unfoldable pub scannedRecord : Scanned → End → Option Record
-scannedRecord s more = none
-scannedRecord s whole = some (recordIn (s .player .part))
-scannedRecord s wrong = none
-
-unfoldable pub resumedRecord : Stage → Player → (bytes : List ℕ) → Option Record
-resumedRecord Header p l = scannedRecord (scan p l) (scan p l .end)
-resumedRecord Records p l = scannedRecord (scan p l) (scan p l .end)
-resumedRecord Again p l = some (recordIn (p .part))
-resumedRecord Broken p l = none
-
-unfoldable pub playedRecord : Player → (bytes : List ℕ) → Option Record
-playedRecord p l = cond (isPlaying (p .stage) (p .taken) (p .part)) (resumedRecord (p .stage) p l) none
+-- the record that a call of the player performs
+abbrev pub playedRecord : Player → (bytes : List ℕ) → Option Record
+playedRecord p l = dueRecord (advanced p l)

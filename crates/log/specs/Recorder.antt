@@ -12,8 +12,10 @@ use Rattle.model.specs.Answers.{refusalOf}
 use Rattle.model.specs.World.{World}
 use Rattle.model.specs.Calls.{Call, step}
 use Rattle.log.specs.declared.Record.{Record}
+use Rattle.log.specs.declared.recorder.Logged.{Logged}
 use Rattle.log.specs.Logs.{header, bytesIn, recordOf}
-use Rattle.log.specs.Players.{Performed, counted}
+use Rattle.log.specs.Players.{counted}
+use Rattle.log.specs.Plays.{Performed}
 use Rattle.log.specs.Cards.{shown}
 
 -- ---- what the recorder appends
@@ -30,6 +32,10 @@ pub record Appended : Type 0 where
   pub answer : Answer
   pub count : ℕ
   pub output : List ℕ
+
+-- what the code hands back beside the output
+abbrev pub appendedTo : Logged → (output : List ℕ) → Appended
+appendedTo r output = record { answer = r .answer; count = r .count; output = output }
 
 -- too little room is 6, and nothing is written
 unfoldable pub appended : (bytes out : List ℕ) → Appended

@@ -1,0 +1,21 @@
+-- What the functions that take the bytes of a log promise each other. Assumes nothing.
+use mathlib.Core.List.{List}
+use Prim.Native.Nat.{ℕ, _+_}
+use lib.ListN.{drop}
+use Rattle.log.specs.declared.Stage.the-variants.{Broken}
+use Rattle.log.specs.declared.Player.{Player}
+use Rattle.log.specs.declared.End.the-variants.{Wrong}
+use Rattle.log.specs.declared.Scanned.{Scanned}
+use Rattle.log.specs.Players.{playerOf, noPart, scan}
+
+-- with n bytes taken before it
+abbrev pub behind : (n : ℕ) → Scanned → Scanned
+behind n s = record { player = s .player; taken = n + s .taken; end = s .end }
+
+-- from a place of a log on, the bytes before it taken
+unfoldable pub scanFrom : (from : ℕ) → Player → (log : List ℕ) → Scanned
+scanFrom from p log = behind from (scan p (drop from log))
+
+-- a wrong byte behind `taken` others
+abbrev pub brokenAt : (number taken : ℕ) → Scanned
+brokenAt number taken = record { player = playerOf Broken 0 noPart number; taken = taken; end = Wrong }

@@ -1,0 +1,147 @@
+// What a call of a player takes, before it meets the card, and how the player goes on after it.
+ghost use mathlib.Core.Path.{_≡_};
+ghost use mathlib.Core.Bool.{true};
+ghost use Rattle.log.specs.declared.Stage.the-variants.{Records};
+ghost use Rattle.log.specs.Players.{playerOf, between, isPlaying, counted, advancedOf, stopped, scanned, advanced};
+ghost use Rattle.log.specs.Plays.{onward};
+use crate::Advanced;
+use crate::End;
+use crate::Player;
+use crate::Scanned;
+use crate::Stage;
+use crate::format::size_of;
+use crate::scan::scan_header;
+use crate::scan::scan_record;
+use model::Answer;
+
+// One more record is complete; past 2^64 - 1 the number stays there.
+fn counted(number: u64) -> u64
+    ensures { λ r. ⌜ r ≡ counted number ⌝ }
+{
+    if number == 0xffffffffffffffff {
+        return number;
+    }
+    number + 1
+}
+
+// Between two records.
+fn between(number: u64) -> Player
+    ensures { λ r. ⌜ r ≡ between number ⌝ }
+{
+    Player {
+        stage: Stage::Records,
+        taken: 0,
+        part: [0; 15],
+        number,
+    }
+}
+
+// Whether a player goes on: part of the header or of a record is taken, or all of a record that is to be tried again.
+fn is_playing(player: Player) -> bool
+    ensures { λ r. ⌜ r ≡ isPlaying (player .stage) (player .taken) (player .part) ⌝ }
+{
+    let taken = player.taken;
+    let size = size_of(player.part[0]);
+    let stage = player.stage;
+    match stage {
+        Stage::Header => taken < 5,
+        Stage::Records => taken == 0 || taken < size,
+        Stage::Again => 0 < taken && taken == size,
+        Stage::Broken => false,
+    }
+}
+
+// The player goes on no more: 30, and nothing changes.
+fn stopped(player: Player) -> Advanced
+    ensures { λ r. ⌜ r ≡ stopped player ⌝ }
+{
+    Advanced {
+        player,
+        taken: 0,
+        refusal: 30,
+        due: false,
+    }
+}
+
+// A whole record is due.
+fn due(player: Player, taken: usize) -> Advanced
+    ensures { λ r. ⌜ r ≡ advancedOf (playerOf Records (player .taken) (player .part) (counted (player .number))) taken 0 true ⌝ }
+{
+    let part = player.part;
+    let held = Player {
+        stage: Stage::Records,
+        taken: player.taken,
+        part,
+        number: counted(player.number),
+    };
+    Advanced {
+        player: held,
+        taken,
+        refusal: 0,
+        due: true,
+    }
+}
+
+// After the bytes of a call.
+fn after_scan(s: Scanned) -> Advanced
+    ensures { λ r. ⌜ r ≡ scanned s (s .end) ⌝ }
+{
+    let player = s.player;
+    let end = s.end;
+    match end {
+        End::More => Advanced {
+            player,
+            taken: s.taken,
+            refusal: 0,
+            due: false,
+        },
+        End::Whole => due(player, s.taken),
+        End::Wrong => Advanced {
+            player,
+            taken: s.taken,
+            refusal: 30,
+            due: false,
+        },
+    }
+}
+
+// Takes bytes of a log up to the end of the first complete record, which is then due, or none if a record is to be tried again.
+pub fn advance(player: Player, log: &[u8]) -> Advanced
+    ensures { λ r. ⌜ r ≡ advanced player (now (log .entry)) ⌝ }
+{
+    if !is_playing(player) {
+        return stopped(player);
+    }
+    let part = player.part;
+    let stage = player.stage;
+    match stage {
+        Stage::Header => after_scan(scan_header(part, player.taken, player.number, log)),
+        Stage::Records => after_scan(scan_record(part, player.taken, player.number, log, 0)),
+        Stage::Again => Advanced {
+            player,
+            taken: 0,
+            refusal: 0,
+            due: true,
+        },
+        Stage::Broken => stopped(player),
+    }
+}
+
+// After the record's call: 6 is tried again; after any other answer the next record follows.
+pub fn onward(player: Player, answer: Answer) -> Player
+    ensures { λ r. ⌜ r ≡ onward player answer ⌝ }
+{
+    let Answer::Refused(number) = answer else {
+        return between(player.number);
+    };
+    if number != 6 {
+        return between(player.number);
+    }
+    let part = player.part;
+    Player {
+        stage: Stage::Again,
+        taken: player.taken,
+        part,
+        number: player.number,
+    }
+}
