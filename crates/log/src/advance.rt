@@ -2,13 +2,16 @@
 ghost use mathlib.Core.Path.{_≡_};
 ghost use mathlib.Core.Bool.{true};
 ghost use Rattle.log.specs.declared.Stage.the-variants.{Records};
+ghost use Rattle.log.specs.Logs.{recordIn};
 ghost use Rattle.log.specs.Players.{playerOf, between, isPlaying, counted, advancedOf, stopped, scanned, advanced};
 ghost use Rattle.log.specs.Plays.{onward};
 use crate::Advanced;
 use crate::End;
 use crate::Player;
+use crate::Record;
 use crate::Scanned;
 use crate::Stage;
+use crate::format::record_in;
 use crate::format::size_of;
 use crate::scan::scan_header;
 use crate::scan::scan_record;
@@ -125,6 +128,14 @@ pub fn advance(player: Player, log: &[u8]) -> Advanced
         },
         Stage::Broken => stopped(player),
     }
+}
+
+// The record that a player holds.
+pub fn held_record(player: Player) -> Record
+    ensures { λ r. ⌜ r ≡ recordIn (player .part) ⌝ }
+{
+    let part = player.part;
+    record_in(&part)
 }
 
 // After the record's call: 6 is tried again; after any other answer the next record follows.
