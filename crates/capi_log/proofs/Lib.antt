@@ -1,0 +1,2 @@
+pub mod CrossingFor
+pub mod RecordingFor
