@@ -9,22 +9,24 @@ use lib.ListN.{length}
 use borrow.Author.Tests.{eq-eqb, ne-eqb, eqb-true}
 use Rattle.words.specs.Lists.{firstOf}
 use Rattle.words.specs.Bytes.{byte}
-use Rattle.words.proofs.BoolLaws.{both, cond-elim}
-use Rattle.model.specs.declared.Card.{Card}
+use Rattle.words.proofs.BoolLaws.{both}
 use Rattle.model.specs.declared.Answer.{Answer}
-use Rattle.model.specs.Answers.{refusalOf}
-use Rattle.model.specs.World.{World, worldOf}
-use Rattle.model.specs.Image.{cardBytes, cardIn}
-use Rattle.model.specs.Calls.{Call, call, reset}
-use Rattle.image.proofs.CardLaws.{card-alone}
+use Rattle.model.specs.declared.Answer.the-variants.{Refused}
+use Rattle.model.specs.Answers.{refusalOf, eventCode}
+use Rattle.model.specs.World.{worldOf}
+use Rattle.model.specs.Image.{cardIn}
+use Rattle.model.specs.Calls.{Call, Outcome, call, reset, step}
 use Rattle.log.specs.declared.Player.{Player}
-use Rattle.player.specs.declared.play.Ended.{Ended}
-use Rattle.player.specs.declared.play.Ended.the-variants.{Nothing, With}
-use Rattle.player.specs.declared.play.Played.{Played}
-use Rattle.player.specs.Plays.{Heard, heard, playCall}
+use Rattle.log.specs.declared.Advanced.{Advanced}
+use Rattle.log.specs.Logs.{recordIn, callOf}
+use Rattle.log.specs.Players.{advanced}
+use Rattle.log.specs.Plays.{onward}
+use Rattle.player.specs.Plays.{Heard, playCall}
+use Rattle.player.proofs.PlayLaws.{performedTo, play-idle, play-due}
+use Rattle.capi.specs.Crossing as Capi
 use Rattle.capi.specs.Crossing.{unread}
-use Rattle.capi_log.specs.declared.playing.Told.{Told}
-use Rattle.capi_log.specs.Crossing.{isCard, isPlayer, playerIn, playerBytes, toldOf, cardAfter, handed, back, played}
+use Rattle.capi.proofs.CrossingFor.{read-through}
+use Rattle.capi_log.specs.Crossing.{isCard, isPlayer, playerIn, playerBytes, Crossed, handed, back, played}
 
 -- ---- the bytes of a card, and of a player
 
@@ -55,6 +57,11 @@ pub stage-test : (l : List ℕ) → length l ≡ 25 → ltb (byte l 0) 4 ≡ isP
 unfolding isPlayer
 stage-test l h = rw (eq-eqb (length l) 25 h)
 
+-- a call reads a card's bytes
+card-read : (l : List ℕ) (c : Call) → isCard l ≡ true → unread l (call c) ≡ 0
+unfolding unread isCard
+card-read l c e = eqb-true (unread l (call c)) 0 (two-rows (eqb (length l) 289) (ltb (byte l 0) 4) ∙ e)
+
 -- ---- what crosses
 
 module _ (card table pending player log out : List ℕ) where
@@ -71,18 +78,43 @@ module _ (card table pending player log out : List ℕ) where
   unfolding played
   through c e h q = rw (c, e) (ap (back card) q)
 
--- the lent buffers are no part of a card's bytes
-alone : (card : List ℕ) (e : Ended) (c : Card) (t p : List ℕ) → cardAfter card e (worldOf c [] []) ≡ cardAfter card e (worldOf c t p)
-alone card Nothing c t p = refl
-alone card (With a) c t p = ap (λ (l : List ℕ). cond (eqb (refusalOf a) 0) l card) (sym (card-alone c t p))
+-- a player goes on by the number of the refusal alone
+onward-by : (p : Player) (a : Answer) → onward p (Refused (refusalOf a)) ≡ onward p a
+unfolding onward refusalOf
+onward-by p a = refl
 
--- the call of a player that the code made, on the card and the player that the bytes hold
+-- a player p on the card and the player that the bytes hold; a is what its call took
 module _ (card table pending player log out : List ℕ) (c : isCard card ≡ true) (e : isPlayer player ≡ true)
-    (held : Card) (d : held ≡ cardIn card) (p : Player) (f : p ≡ playerIn player)
-    (r : Played) (t′ p′ out′ : List ℕ) (q : heard r t′ p′ out′ ≡ playCall p (worldOf held table pending) log out) where
-  pub handed-back : (card′ player′ : List ℕ) (told : Told) → card′ ≡ cardAfter card (r .ended) (worldOf (r .card) [] []) → player′ ≡ playerBytes (r .player)
-      → told ≡ toldOf (r .ended)
-      → handed (r .refusal) card′ t′ p′ player′ out′ (r .taken) (told .ended) (told .refusal) (told .event) (r .count) ≡ played card table pending player log out
-  handed-back card′ player′ told x y z =
-      (λ i. handed (r .refusal) ((x ∙ alone card (r .ended) (r .card) t′ p′) i) t′ p′ (y i) out′ (r .taken) (z i .ended) (z i .refusal) (z i .event) (r .count))
-      ∙ through card table pending player log out c e (heard r t′ p′ out′) (q ∙ (λ i. playCall (f i) (worldOf (d i) table pending) log out))
+    (p : Player) (f : p ≡ playerIn player) (a : Advanced) (q : a ≡ advanced p log) where
+  taken-by : a ≡ advanced (playerIn player) log
+  taken-by = q ∙ ap (λ (x : Player). advanced x log) f
+
+  -- no record is due
+  pub handed-idle : a .due ≡ false → (player′ : List ℕ) → player′ ≡ playerBytes (a .player)
+      → handed (a .refusal) card table pending player′ out (a .taken) 0 0 0 0 ≡ played card table pending player log out
+  handed-idle d player′ y =
+      ap (λ (l : List ℕ). handed (a .refusal) card table pending l out (a .taken) 0 0 0 0) y
+      ∙ through card table pending player log out c e _ (play-idle (playerIn player) (worldOf (cardIn card) table pending) log out a taken-by d)
+
+  -- the record that is due was performed, and x crossed
+  pub handed-due : a .due ≡ true → (x : Capi.Crossed) → x ≡ Capi.crossed card table pending (call (callOf (recordIn (a .player .part)) out))
+      → (player′ : List ℕ) → player′ ≡ playerBytes (onward (a .player) (Refused (x .refusal)))
+      → handed 0 (x .card) (x .table) (x .pending) player′ (x .output) (a .taken) 1 (x .refusal) (x .answer) (x .count) ≡ played card table pending player log out
+  unfolding Capi.cardAfter
+  handed-due u x z player′ y =
+      ap (λ (l : List ℕ). handed 0 (x .card) (x .table) (x .pending) l (x .output) (a .taken) 1 (x .refusal) (x .answer) (x .count)) y
+      ∙ ap due-back (z ∙ read-through card table pending (call made) (card-read card made c))
+      ∙ ap (λ (l : List ℕ). handed 0 (Capi.cardOver (refusalOf (o .answer)) card (o .world)) (o .world .endpoint .table) (o .world .endpoint .pending) l (o .output)
+      (a .taken) 1 (refusalOf (o .answer)) (eventCode (o .answer)) (o .count)) (ap playerBytes (onward-by (a .player) (o .answer)))
+      ∙ through card table pending player log out c e (performedTo a o)
+      (play-due (playerIn player) (worldOf (cardIn card) table pending) log out a taken-by u o refl)
+    where
+      made : Call
+      made = callOf (recordIn (a .player .part)) out
+
+      o : Outcome
+      o = step (worldOf (cardIn card) table pending) made
+
+      due-back : Capi.Crossed → Crossed
+      due-back k =
+          handed 0 (k .card) (k .table) (k .pending) (playerBytes (onward (a .player) (Refused (k .refusal)))) (k .output) (a .taken) 1 (k .refusal) (k .answer) (k .count)

@@ -16,7 +16,6 @@ use Rattle.player.specs.declared.play.Ended.{Ended}
 use Rattle.player.specs.declared.play.Ended.the-variants.{Nothing, With}
 use Rattle.player.specs.Plays.{Heard, playCall}
 use Rattle.capi.specs.Crossing.{cardOver}
-use Rattle.capi_log.specs.declared.playing.Told.{Told}
 
 -- ---- a player as bytes: stage, bytes taken, the 15 bytes of a record, the number of complete records, low byte first
 
@@ -77,12 +76,17 @@ handed returned card table pending player output taken ended refusal answer coun
 }
 
 -- what became of the record as numbers: 1 if its call was made, its refusal, and what became of an event
-abbrev pub told : (ended refusal event : ℕ) → Told
-told ended refusal event = record { ended = ended; refusal = refusal; event = event }
+abbrev pub endedCode : Ended → ℕ
+endedCode Nothing = 0
+endedCode (With answer) = 1
 
-abbrev pub toldOf : Ended → Told
-toldOf Nothing = told 0 0 0
-toldOf (With answer) = told 1 (refusalOf answer) (eventCode answer)
+abbrev pub refusalIn : Ended → ℕ
+refusalIn Nothing = 0
+refusalIn (With answer) = refusalOf answer
+
+abbrev pub answerIn : Ended → ℕ
+answerIn Nothing = 0
+answerIn (With answer) = eventCode answer
 
 -- the bytes of the card: they stay where no call was made, and beside a refusal
 abbrev pub cardAfter : List ℕ → Ended → World → List ℕ
@@ -92,7 +96,7 @@ cardAfter card (With answer) w = cardOver (refusalOf answer) card w
 abbrev pub back : (card : List ℕ) → Heard → Crossed
 back card h =
     handed (h .refusal) (cardAfter card (h .ended) (h .world)) (h .world .endpoint .table) (h .world .endpoint .pending) (playerBytes (h .player))
-    (h .output) (h .taken) (toldOf (h .ended) .ended) (toldOf (h .ended) .refusal) (toldOf (h .ended) .event) (h .count)
+    (h .output) (h .taken) (endedCode (h .ended)) (refusalIn (h .ended)) (answerIn (h .ended)) (h .count)
 
 -- 60 where the bytes are no card's or no player's, and nothing changes; else the call of the player that they hold, on the card that they hold
 unfoldable pub played : (card table pending player log out : List ℕ) → Crossed

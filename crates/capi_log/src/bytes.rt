@@ -2,6 +2,8 @@
 ghost use mathlib.Core.Path.{_≡_};
 ghost use lib.ListN.{length};
 ghost use Rattle.words.specs.Bytes.{part};
+ghost use Rattle.model.specs.declared.Answer.the-variants.{Refused};
+ghost use Rattle.log.specs.Plays.{onward};
 ghost use Rattle.capi_log.specs.Crossing.{stageOf, stageByte, playerIn, playerBytes, isCard, isPlayer};
 use log::Player;
 use log::Stage;
@@ -90,4 +92,29 @@ pub fn put_player(out: &mut [u8], player: Player)
     let a = words::put::put_slice(out, &first);
     let b = a + words::put::put_slice(&mut out[a..], &part);
     words::put::put_le(&mut out[b..], 8, player.number);
+}
+
+// Writes the player that holds a record whose call was answered with a refusal, or 0: after 6 it is to be tried again, else the next record follows.
+pub fn put_onward(out: &mut [u8], player: Player, refusal: u8)
+    requires { ⌜ length (now out) ≡ 25 ⌝ }
+    ensures { λ r. ⌜ now (out .exit) ≡ playerBytes (onward player (Refused refusal)) ⌝ }
+{
+    if refusal != 6 {
+        let next = Player {
+            stage: Stage::Records,
+            taken: 0,
+            part: [0; 15],
+            number: player.number,
+        };
+        put_player(out, next);
+        return;
+    }
+    let part = player.part;
+    let again = Player {
+        stage: Stage::Again,
+        taken: player.taken,
+        part,
+        number: player.number,
+    };
+    put_player(out, again);
 }

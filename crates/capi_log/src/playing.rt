@@ -1,45 +1,71 @@
 // A log played.
 ghost use mathlib.Core.Path.{_≡_};
-ghost use mathlib.Core.List.{[]};
-ghost use lib.ListN.{length};
-ghost use Rattle.model.specs.World.{worldOf};
-ghost use Rattle.capi_log.specs.Crossing.{told, toldOf, cardAfter};
+ghost use Rattle.model.specs.Calls.{call};
+ghost use Rattle.log.specs.Logs.{callOf};
+ghost use Rattle.capi.specs.Crossing as Capi;
 ghost use Rattle.capi_log.specs.Crossing.{handed, played};
 use crate::bytes::is_card;
 use crate::bytes::is_player;
 use crate::bytes::player_of;
+use crate::bytes::put_onward;
 use crate::bytes::put_player;
-use image::get::card_of;
-use model::Card;
-use player::play::Ended;
+use capi::events::musgarento_event;
+use capi::events::musgarento_line;
+use capi::starts::musgarento_reset;
+use capi::writes::musgarento_bar_write;
+use capi::writes::musgarento_config_write;
+use log::Record;
 
-// What became of the record as numbers: whether its call was made, its refusal, and what became of an event.
-pub struct Told {
-    pub ended: u8,
-    pub refusal: u8,
-    pub event: u8,
-}
-
-// Writes the card after an accepted call over the bytes of the card before it; they stay beside a refusal, and where no call was made.
-fn hand_back(bytes: &mut [u8], card: Card, ended: Ended) -> Told
-    requires { ⌜ length (now bytes) ≡ 289 ⌝ }
-    ensures { λ r. ⌜ (r ≡ toldOf ended) × (now (bytes .exit) ≡ cardAfter (now (bytes .entry)) ended (worldOf card [] [])) ⌝ }
+// The call that a record is, through the interface: all that meets the card.
+fn perform(
+    card: &mut [u8],
+    table: &mut [u8],
+    pending: &mut [u8],
+    made: Record,
+    out: &mut [u8],
+    answer: &mut u8,
+    count: &mut usize,
+) -> u8
+    ensures { λ r. ⌜ Capi.handed r (now (card .exit)) (now (table .exit)) (now (pending .exit)) (now (out .exit)) 0 (now (answer .exit)) (now (count .exit))
+        ≡ Capi.crossed (now (card .entry)) (now (table .entry)) (now (pending .entry)) (call (callOf made (now (out .entry)))) ⌝ }
 {
-    let Ended::With(answer) = ended else {
-        return Told {
-            ended: 0,
-            refusal: 0,
-            event: 0,
-        };
-    };
-    let numbers = capi::bytes::numbers_of(answer);
-    if numbers.refusal == 0 {
-        image::put::put_card(bytes, card);
-    }
-    Told {
-        ended: 1,
-        refusal: numbers.refusal,
-        event: numbers.event,
+    *answer = 0;
+    match made {
+        Record::Event(number) => {
+            musgarento_event(card, table, pending, number as u64, out, answer, count)
+        }
+        Record::Line(level) => musgarento_line(card, table, pending, level as u64, out, count),
+        Record::ConfigWrite {
+            offset,
+            width,
+            value,
+        } => musgarento_config_write(
+            card,
+            table,
+            pending,
+            offset as u64,
+            width as u64,
+            value,
+            out,
+            count,
+        ),
+        Record::BarWrite {
+            bar,
+            offset,
+            width,
+            value,
+        } => musgarento_bar_write(
+            card,
+            table,
+            pending,
+            bar as u64,
+            offset as u64,
+            width as u64,
+            value,
+            out,
+            count,
+        ),
+        Record::Reset => musgarento_reset(card, table, pending, out, count),
     }
 }
 
@@ -72,14 +98,16 @@ pub extern "C" fn musgarento_play(
     if !is_player(player) {
         return 60;
     }
-    let done = player::play::play(card_of(card), table, pending, player_of(player), log, out);
-    *taken = done.taken;
-    *count = done.count;
-    put_player(player, done.player);
-    let became = done.ended;
-    let told = hand_back(card, done.card, became);
-    *ended = told.ended;
-    *refusal = told.refusal;
-    *answer = told.event;
-    done.refusal
+    let next = log::advance::advance(player_of(player), log);
+    *taken = next.taken;
+    let held = next.player;
+    if !next.due {
+        put_player(player, held);
+        return next.refusal;
+    }
+    let made = log::advance::held_record(held);
+    *refusal = perform(card, table, pending, made, out, answer, count);
+    *ended = 1;
+    put_onward(player, held, *refusal);
+    0
 }

@@ -1,14 +1,16 @@
--- 60 where the bytes are no card's or no player's; else the call of the player that they hold, on the card that they hold. Assumes nothing.
-use mathlib.Core.Path.{_≡_, sym, _∙_}
+-- 60 where the bytes are no card's or no player's; else what the player takes, and if a record is due the call that it is, card and player handed back.
+-- Assumes nothing.
+use mathlib.Core.Path.{_≡_, sym, ap, _∙_}
 use mathlib.Core.Bool.{true}
-use mathlib.Core.List.{List}
-use Prim.Native.Nat.{ℕ}
-use native.Mathlib.Omega.{arith}
 use denote.Ref.{now}
 use borrow.Author.Needs.{needs}
 use borrow.Author.Tests.{not-true, not-false}
+use Rattle.model.specs.Calls.{call}
+use Rattle.log.specs.declared.Record.{Record}
+use Rattle.log.specs.Logs.{callOf}
+use Rattle.capi.specs.Crossing.{crossed}
 use Rattle.capi_log.specs.Crossing.{isCard, isPlayer}
-use Rattle.capi_log.proofs.CrossingFor.{card-length, player-length, no-card, no-player, handed-back}
+use Rattle.capi_log.proofs.CrossingFor.{player-length, no-card, no-player, handed-idle, handed-due}
 use Rattle.capi_log.proofs.playing.musgarento_play.Statement.{statement}
 use Rattle.capi_log.proofs.playing.musgarento_play.Tie as tie
 
@@ -24,6 +26,32 @@ is-card c = sym (c .before .is-card .ensures) ∙ not-false _ (c .if1 .left)
 is-player : (c : tie.Else2) → isPlayer (now (start (c .before .before .before .before) .args .player)) ≡ true
 is-player c = sym (c .before .is-player .ensures) ∙ not-false _ (c .if2 .left)
 
+-- both tests, seen from what the player takes
+module _ (c : tie.After-advance) where
+  abbrev at-player-of : tie.After-player-of
+  at-player-of = c .before
+
+  abbrev second : tie.Else2
+  second = at-player-of .before .before
+
+  abbrev first : tie.Else1
+  first = let at-is-player = second .before in at-is-player .before .before
+
+-- what the player takes, seen from the record's call
+module _ (c : tie.After-perform) where
+  abbrev at-record : tie.After-held-record
+  at-record = let at-args = c .before .before .before in at-args .before .before .before .before
+
+  abbrev at-if3 : tie.Else3
+  at-if3 = at-record .before
+
+  abbrev at-advance : tie.After-advance
+  at-advance = at-if3 .before .before .before
+
+-- the record's call, seen from where the player is handed back
+abbrev perform-before : tie.After-put-onward-arg → tie.After-perform
+perform-before c = let at-out = c .before .before in at-out .before .before .before .before .before .before .before
+
 returns : tie.Need-returns
 returns c = no-card _ _ _ _ _ _ (sym (c .before .is-card .ensures) ∙ not-true _ (c .if1 .taken))
 
@@ -32,49 +60,38 @@ returns-2 c =
     let at-is-player = c .before in
     no-player _ _ _ _ _ _ (is-card (at-is-player .before .before)) (sym (at-is-player .is-player .ensures) ∙ not-true _ (c .if2 .taken))
 
-card-of-requires : tie.Need-card-of-requires
-card-of-requires c κs =
-    let h = card-length _ (is-card (c .before .before .before .before)) in
-    omega (arith, h)
-
 player-of-requires : tie.Need-player-of-requires
-player-of-requires c κs =
-    let at-card-of = c .before .before .before in
-    player-length _ (is-player (at-card-of .before .before))
-
--- what was played, and the bytes that it was played on
-module _ (c : tie.After-play) where
-  abbrev at-player-of : tie.After-player-of
-  at-player-of = c .before .before
-
-  abbrev at-card-of : tie.After-card-of
-  at-card-of = let at-play-arg2 = at-player-of .before .before in at-play-arg2 .before .before
-
-  abbrev checked : tie.Else2
-  checked = at-card-of .before .before
-
-  abbrev tested : tie.After-is-card
-  tested = let at-is-player = checked .before in at-is-player .before .before .before
+player-of-requires c κs = player-length _ (is-player (c .before))
 
 put-player-requires : tie.Need-put-player-requires
 put-player-requires c κs =
-    let at-play = c .before .before .before .before .before .before .before in
-    player-length _ (is-player (checked at-play))
-
-hand-back-requires : tie.Need-hand-back-requires
-hand-back-requires c κs =
-    let at-put-player = c .before .before .before in
-    let at-play = at-put-player .before .before .before .before .before .before .before .before in
-    card-length _ (is-card (checked at-play .before .before .before))
+    let at-advance = c .before .before .before .before in
+    player-length _ (is-player (second at-advance))
 
 returns-3 : tie.Need-returns-3
 returns-3 c =
-    let at-hand-back = c .before .before in
-    let at-put-player = at-hand-back .before .before .before .before in
-    let at-play = at-put-player .before .before .before .before .before .before .before .before in
-    handed-back _ _ _ _ _ _ (is-card (checked at-play .before .before .before)) (is-player (checked at-play))
-    _ (at-card-of at-play .card-of .ensures) _ (at-player-of at-play .player-of .ensures) _ _ _ _ (at-play .play .ensures)
-    _ _ _ (at-hand-back .hand-back .ensures .1) (at-put-player .put-player .ensures) (at-hand-back .hand-back .ensures .0)
+    let at-put-player = c .before .before in
+    let at-if3 = at-put-player .before .before in
+    let at-advance = at-if3 .before .before .before in
+    handed-idle _ _ _ _ _ _ (is-card (first at-advance)) (is-player (second at-advance)) _ (at-player-of at-advance .player-of .ensures)
+    (at-advance .advance .result) (at-advance .advance .ensures) (not-true _ (at-if3 .if3 .taken)) _ (at-put-player .put-player .ensures)
+
+put-onward-requires : tie.Need-put-onward-requires
+put-onward-requires c κs =
+    let at-perform = perform-before (c .before) in
+    player-length _ (is-player (second (at-advance at-perform)))
+
+returns-4 : tie.Need-returns-4
+returns-4 c =
+    let at-put-onward = c .before .before in
+    let at-perform = perform-before (at-put-onward .before .before) in
+    let d = at-advance at-perform in
+    let a = start (first d .before) .args in
+    handed-due _ _ _ _ _ _ (is-card (first d)) (is-player (second d)) _ (at-player-of d .player-of .ensures) (d .advance .result) (d .advance .ensures)
+    (not-false _ (at-if3 at-perform .if3 .left)) _
+    (at-perform .perform .ensures
+    ∙ ap (λ (r : Record). crossed (now (a .card)) (now (a .table)) (now (a .pending)) (call (callOf r (now (a .out))))) (at-record at-perform .held-record .ensures))
+    _ (at-put-onward .put-onward .ensures)
 
 pub musgarento-play-spec : {M : Type 1} → statement M
 musgarento-play-spec =
@@ -84,10 +101,12 @@ musgarento-play-spec =
     returns
     (λ c κs. search needs) (λ c. search needs) (λ c. search needs)
     returns-2
-    card-of-requires
     player-of-requires
     (λ c κs. search needs)
     put-player-requires
-    hand-back-requires
+    (λ c. search needs) (λ c. search needs)
+    returns-3
+    (λ c κs. search needs) (λ c κs. search needs)
+    put-onward-requires
     (λ c. search needs) (λ c. search needs) (λ c. search needs) (λ c. search needs) (λ c. search needs)
-    returns-3)
+    returns-4)
