@@ -10,7 +10,7 @@ use Rattle.words.proofs.ByteLaws.{number-bytesOf}
 use Rattle.log.specs.declared.Record.{Record}
 use Rattle.log.specs.declared.Record.the-variants.{Event, Line, ConfigWrite, BarWrite, Reset}
 use Rattle.log.specs.Logs.{Fits, header, sizeOf, recordIn, bytesIn}
-use Rattle.log.specs.Players.{between, fresh, fits, fitsRecord, with, complete, counted}
+use Rattle.log.specs.Players.{between, fresh, fits, fitsLater, fitsRecord, with, complete, counted}
 use Rattle.log.specs.Plays.{Performed}
 use Rattle.log.specs.Cuttings.{Trial, preceded, wholeOf}
 
@@ -23,28 +23,28 @@ module _ {W : Type 0} (perform : W → Record → Performed W) (w : W) (n : ℕ)
   next r = preceded (perform w r ∷ []) (wholeOf perform (between (counted n)) (perform w r .world) l)
 
   feed-event : (a b : ℕ) → wholeOf perform (between n) w (1 ∷ a ∷ b ∷ l) ≡ next (Event (a + 256 * (b + 256 * 0)))
-  unfolding wholeOf fits fitsRecord with complete sizeOf firstOf recordIn word16 number
+  unfolding wholeOf fits fitsLater fitsRecord with complete sizeOf firstOf recordIn word16 number
   feed-event a b = refl
 
   feed-reset : wholeOf perform (between n) w (5 ∷ l) ≡ next Reset
-  unfolding wholeOf fits fitsRecord with complete sizeOf firstOf recordIn
+  unfolding wholeOf fits fitsLater fitsRecord with complete sizeOf firstOf recordIn
   feed-reset = refl
 
   feed-line : (level : Bool) → wholeOf perform (between n) w (2 ∷ ofBool level ∷ l) ≡ next (Line level)
-  unfolding wholeOf fits fitsRecord with complete sizeOf firstOf recordIn ofBool
+  unfolding wholeOf fits fitsLater fitsRecord with complete sizeOf firstOf recordIn ofBool
   feed-line true = refl
   feed-line false = refl
 
   feed-bar : (b a0 a1 a2 a3 k x0 x1 x2 x3 x4 x5 x6 x7 : ℕ)
       → wholeOf perform (between n) w (4 ∷ b ∷ a0 ∷ a1 ∷ a2 ∷ a3 ∷ k ∷ x0 ∷ x1 ∷ x2 ∷ x3 ∷ x4 ∷ x5 ∷ x6 ∷ x7 ∷ l)
       ≡ next (BarWrite b (number (byte (a0 ∷ a1 ∷ a2 ∷ a3 ∷ [])) 0 4) k (number (byte (x0 ∷ x1 ∷ x2 ∷ x3 ∷ x4 ∷ x5 ∷ x6 ∷ x7 ∷ [])) 0 8))
-  unfolding wholeOf fits fitsRecord with complete sizeOf firstOf recordIn word32 word64 number
+  unfolding wholeOf fits fitsLater fitsRecord with complete sizeOf firstOf recordIn word32 word64 number
   feed-bar b a0 a1 a2 a3 k x0 x1 x2 x3 x4 x5 x6 x7 = refl
 
   feed-config : (o0 o1 k x0 x1 x2 x3 : ℕ)
       → wholeOf perform (between n) w (3 ∷ o0 ∷ o1 ∷ k ∷ x0 ∷ x1 ∷ x2 ∷ x3 ∷ l)
       ≡ next (ConfigWrite (number (byte (o0 ∷ o1 ∷ [])) 0 2) k (number (byte (x0 ∷ x1 ∷ x2 ∷ x3 ∷ [])) 0 4))
-  unfolding wholeOf fits fitsRecord with complete sizeOf firstOf recordIn word16 word32 number
+  unfolding wholeOf fits fitsLater fitsRecord with complete sizeOf firstOf recordIn word16 word32 number
   feed-config o0 o1 k x0 x1 x2 x3 = refl
 
   -- played from between two records, the bytes of a record perform that record once and nothing else, and the rest of the log follows

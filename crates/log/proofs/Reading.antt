@@ -17,7 +17,7 @@ use Rattle.log.specs.declared.Stage.the-variants.{Header, Records, Again
 use Rattle.log.specs.Logs.{header, sizeOf}
 use Rattle.log.specs.declared.End.the-variants.{More, Whole, Wrong}
 use Rattle.log.specs.declared.Scanned.{Scanned}
-use Rattle.log.specs.Players.{further, scan, fits, fitsRecord, with, complete, broken, playerOf, isPlaying}
+use Rattle.log.specs.Players.{further, scan, fits, fitsLater, fitsRecord, with, complete, broken, playerOf, isPlaying}
 
 -- ---- players that read on
 
@@ -47,7 +47,7 @@ size-le k = rest (eqb k 1) (eqb k 2) (eqb k 3) (eqb k 4) (eqb k 5)
 
 -- one more byte that fits and does not complete a record
 pub with-reads : (p : Player) (b : ℕ) → Reads p → fits p b ≡ true → complete (with p b) ≡ false → Reads (with p b)
-unfolding fits fitsRecord with complete isPlaying reading
+unfolding fits fitsLater fitsRecord with complete isPlaying reading
 with-reads p b r f c = go (p .stage) (p .taken) (p .part) (p .number) (r .stage) (r .playing) (r .room) f c
   where
     go : (s : Stage) (t : ℕ) (part : List ℕ) (n : ℕ) → reading s ≡ true → isPlaying s t part ≡ true → length part ≡ 15

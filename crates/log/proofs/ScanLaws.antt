@@ -13,16 +13,12 @@ use Rattle.words.specs.Bytes.{byte}
 use Rattle.words.proofs.BoolLaws.{by-test}
 use Rattle.log.specs.declared.Player.{Player}
 use Rattle.log.specs.declared.Stage.the-variants.{Header, Records}
-use Rattle.log.specs.declared.End.{End}
 use Rattle.log.specs.declared.End.the-variants.{More, Whole}
 use Rattle.log.specs.declared.Scanned.{Scanned}
 use Rattle.log.specs.Logs.{header, sizeOf}
-use Rattle.log.specs.Players.{playerOf, isPlaying, fits, fitsRecord, with, complete, further, scan}
-use Rattle.log.specs.Scanning.{behind, scanFrom, brokenAt}
+use Rattle.log.specs.Players.{playerOf, isPlaying, fits, fitsLater, fitsRecord, with, complete, further, scan}
+use Rattle.log.specs.Scanning.{scannedOf, behind, scanFrom, brokenAt}
 use Rattle.log.proofs.Reading.{size-le}
-
-abbrev scannedOf : Player → ℕ → End → Scanned
-scannedOf p n e = record { player = p; taken = n; end = e }
 
 -- ---- one byte
 
@@ -143,3 +139,24 @@ playing-next t part b l p f e =
         let s : byte (set part t b) 0 ≡ byte part 0 = getD-set-other part t 0 b 0 (λ i. eqb-false t 0 z (sym i)) in
         let k : t < sizeOf (byte (set part t b) 0) = rw s (ltb-true t (sizeOf (byte part 0)) (rw z at p)) in
         omega (arith, k, e)
+
+-- ---- the kind byte, and the bytes behind it
+
+pub first-fits : (kind b : ℕ) → (sizeOf b ≡ 0 → ⊥) → fitsRecord 0 kind b ≡ true
+unfolding fitsRecord
+first-fits kind b h = lt-ltb 0 (sizeOf b) (omega (arith, h))
+
+pub first-wrong : (kind b : ℕ) → sizeOf b ≡ 0 → fitsRecord 0 kind b ≡ false
+unfolding fitsRecord
+first-wrong kind b h = rw h
+
+pub later-fits : (t kind b : ℕ) → 0 < t → fitsRecord t kind b ≡ fitsLater kind b
+unfolding fitsRecord
+later-fits t kind b h = rw (ne-eqb t 0 (λ z. omega (arith, h, z)))
+
+-- the kind byte stays where it is
+pub kind-stays : (t : ℕ) (part : List ℕ) (b : ℕ) → 0 < t → byte (set part t b) 0 ≡ byte part 0
+kind-stays t part b h = getD-set-other part t 0 b 0 (λ i. omega (arith, h, i))
+
+pub kind-set : (part : List ℕ) (b : ℕ) → 0 < length part → byte (set part 0 b) 0 ≡ b
+kind-set part b h = getD-set-same part 0 b 0 h

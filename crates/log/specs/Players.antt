@@ -44,9 +44,13 @@ isPlaying Broken taken part = false
 
 -- ---- one byte
 
--- behind `taken` bytes of a record: a kind; of a line a level, 0 or 1; or any byte
+-- behind the kind byte of a record: of a line 0 or 1, else any byte
+unfoldable pub fitsLater : (kind b : ℕ) → Bool
+fitsLater kind b = not (eqb kind 2) || ltb b 2
+
+-- behind `taken` bytes of a record: the first one is a kind
 unfoldable pub fitsRecord : (taken kind b : ℕ) → Bool
-fitsRecord taken kind b = cond (eqb taken 0) (ltb 0 (sizeOf b)) (not (eqb kind 2) || ltb b 2)
+fitsRecord taken kind b = cond (eqb taken 0) (ltb 0 (sizeOf b)) (fitsLater kind b)
 
 -- the byte fits: it is the next one of mark and version, or of a record
 unfoldable pub fits : Player → (b : ℕ) → Bool

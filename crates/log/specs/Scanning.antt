@@ -4,9 +4,13 @@ use Prim.Native.Nat.{ℕ, _+_}
 use lib.ListN.{drop}
 use Rattle.log.specs.declared.Stage.the-variants.{Broken}
 use Rattle.log.specs.declared.Player.{Player}
+use Rattle.log.specs.declared.End.{End}
 use Rattle.log.specs.declared.End.the-variants.{Wrong}
 use Rattle.log.specs.declared.Scanned.{Scanned}
 use Rattle.log.specs.Players.{playerOf, noPart, scan}
+
+abbrev pub scannedOf : Player → (taken : ℕ) → End → Scanned
+scannedOf p taken end = record { player = p; taken = taken; end = end }
 
 -- with n bytes taken before it
 abbrev pub behind : (n : ℕ) → Scanned → Scanned

@@ -1,105 +1,113 @@
--- The loop's invariant: what a scan gives from place i on, with the bytes taken so far, is what it gives from `from` on. Assumes nothing.
-use mathlib.Core.Path.{_≡_, refl, sym, _∙_}
+-- The kind byte by one law for each way out, and then the bytes behind it. Assumes nothing.
+use mathlib.Core.Path.{_≡_, refl, sym, ap, _∙_}
 use mathlib.Core.Bool.{true}
-use Prim.Native.Nat.{_+_, _-_, _≤_}
+use Prim.Native.Nat.{ℕ, _<_}
 use native.Mathlib.Omega.{arith}
-use lib.ListN.{length, set, length-set}
+use lib.ListN.{length, set}
 use denote.Ref.{now}
 use borrow.Author.Needs.{needs}
-use borrow.Author.Tests.{not-true, not-false}
 use Rattle.words.specs.Bytes.{byte}
 use Rattle.log.specs.declared.Stage.the-variants.{Records}
 use Rattle.log.specs.Logs.{sizeOf}
-use Rattle.log.specs.Players.{isPlaying, playerOf}
+use Rattle.log.specs.Players.{playerOf, isPlaying, fitsRecord}
 use Rattle.log.specs.Scanning.{scanFrom}
-use Rattle.log.proofs.ScanLaws.{from-end, from-wrong, from-whole, from-more, playing-room, playing-next}
+use Rattle.log.proofs.ScanLaws.{from-end, from-wrong, from-whole, from-more, playing-next, first-fits, first-wrong, kind-set}
 use Rattle.log.proofs.scan.scan_record.Statement.{statement}
 use Rattle.log.proofs.scan.scan_record.Tie as tie
 
-abbrev Inv-loop : tie.InvT-loop
-Inv-loop taken number log from held₀ have₀ i₀ held have i =
-    (i ≤ length log) × (isPlaying Records have held ≡ true) × (length held ≡ 15)
-    × (scanFrom i (playerOf Records have held number) log ≡ scanFrom from (playerOf Records taken held₀ number) log)
+part-known : (s : tie.Start) → length (s .args .part) ≡ 15
+part-known s = search needs
 
-abbrev μ-loop : tie.MeasureT-loop
-μ-loop taken number log from held₀ have₀ i₀ held have i = length log - i
+-- nothing of the record is taken yet
+none-taken : (c : tie.Else1) → let a = c .before .before .args in
+    scanFrom (a .from) (playerOf Records 0 (a .part) (a .number)) (now (a .log)) ≡ scanFrom (a .from) (playerOf Records (a .taken) (a .part) (a .number)) (now (a .log))
+none-taken c =
+    let a = c .before .before .args in
+    ap (λ (t : ℕ). scanFrom (a .from) (playerOf Records t (a .part) (a .number)) (now (a .log))) (omega (arith, c .if1 .left))
 
-loop-holds : tie.Need-loop-holds Inv-loop μ-loop
-loop-holds c = (c .before .pre .1, c .before .pre .0, search needs, refl)
-
-returns : tie.Need-returns Inv-loop μ-loop
-returns c =
-    let at-fits = c .before .before in
-    let at-loop = at-fits .before .before .before in
-    let v = at-loop .loop in
-    let a = at-loop .before .before .args in
-    c .broken .ensures
-    ∙ sym (from-wrong (v .i) (now (a .log)) (search needs) (v .have) (v .held) (a .number) (sym (at-fits .fits-record .ensures) ∙ not-true _ (c .before .if1 .taken)))
-    ∙ v .inv .3
-
-array-write-held : tie.Need-array-write-held Inv-loop μ-loop
-array-write-held c =
-    let v = c .before .before .before .before .loop in
-    playing-room (v .have) (v .held) (v .inv .1)
-
-add-have : tie.Need-add-have Inv-loop μ-loop
-add-have c =
-    let v = c .before .before .before .before .loop in
-    let h = playing-room (v .have) (v .held) (v .inv .1) in
-    omega (arith, h)
-
-returns-2 : tie.Need-returns-2 Inv-loop μ-loop
+returns-2 : tie.Need-returns-2
 returns-2 c =
-    let at-size = c .before in
-    let at-else = at-size .before in
-    let at-fits = at-else .before in
-    let at-loop = at-fits .before .before .before in
-    let v = at-loop .loop in
-    let a = at-loop .before .before .args in
-    sym (from-whole (v .i) (now (a .log)) (search needs) (v .have) (v .held) (a .number)
-    (sym (at-fits .fits-record .ensures) ∙ not-false _ (at-else .if1 .left)) (c .if2 .taken ∙ at-size .size-of .ensures))
-    ∙ v .inv .3
+    let at-if1 = c .before .before in
+    let a = at-if1 .before .before .args in
+    c .reading .ensures
+    ∙ sym (from-end (a .from) (playerOf Records 0 (a .part) (a .number)) (now (a .log)) (omega (arith, c .before .if2 .taken)))
+    ∙ none-taken at-if1
 
-loop-less : tie.Need-loop-less Inv-loop μ-loop
-loop-less c = omega arith
+-- there is a kind byte
+module _ (c : tie.After-size-of) where
+  abbrev at-if1 : tie.Else1
+  at-if1 = let at-if2 = c .before .before in at-if2 .before
 
-loop-again : tie.Need-loop-again Inv-loop μ-loop
-loop-again c =
-    let at-size = c .before in
-    let at-else = at-size .before in
-    let at-fits = at-else .before in
-    let at-loop = at-fits .before .before .before in
-    let v = at-loop .loop in
-    let a = at-loop .before .before .args in
-    let l = now (a .log) in
-    let f = sym (at-fits .fits-record .ensures) ∙ not-false _ (at-else .if1 .left) in
-    let e : v .have + 1 ≡ sizeOf (byte (set (v .held) (v .have) (byte l (v .i))) 0) → ⊥ = λ s. c .if2 .left (s ∙ sym (at-size .size-of .ensures)) in (
+  abbrev start : tie.Start
+  start = at-if1 .before .before
+
+  inside : start .args .from < length (now (start .args .log))
+  inside = let at-if2 = c .before .before in omega (arith, start .pre .1, at-if2 .if2 .left)
+
+  abbrev kind : ℕ
+  kind = byte (now (start .args .log)) (start .args .from)
+
+  -- its size, read off the part that holds it
+  sized : c .size-of .result ≡ sizeOf (byte (set (start .args .part) 0 kind) 0)
+  sized = c .size-of .ensures ∙ ap sizeOf (sym (kind-set (start .args .part) kind (omega (arith, part-known start))))
+
+returns-3 : tie.Need-returns-3
+returns-3 c =
+    let at-if3 = c .before in
+    let d = at-if3 .before in
+    let a = start d .args in
+    c .broken .ensures
+    ∙ sym (from-wrong (a .from) (now (a .log)) (inside d) 0 (a .part) (a .number) (first-wrong _ (kind d) (sym (d .size-of .ensures) ∙ at-if3 .if3 .taken)))
+    ∙ none-taken (at-if1 d)
+
+-- and it is one
+module _ (c : tie.Else3) where
+  fits-first : fitsRecord 0 (byte (start (c .before) .args .part) 0) (kind (c .before)) ≡ true
+  fits-first = first-fits _ (kind (c .before)) (λ z. c .if3 .left (c .before .size-of .ensures ∙ z))
+
+returns-4 : tie.Need-returns-4
+returns-4 c =
+    let at-if4 = c .before in
+    let at-if3 = at-if4 .before in
+    let d = at-if3 .before in
+    let a = start d .args in
+    c .reading2 .ensures
+    ∙ sym (from-whole (a .from) (now (a .log)) (inside d) 0 (a .part) (a .number) (fits-first at-if3) (sym (at-if4 .if4 .taken) ∙ sized d))
+    ∙ none-taken (at-if1 d)
+
+scan-rest-requires-2 : tie.Need-scan-rest-requires-2
+unfolding isPlaying
+scan-rest-requires-2 c κs =
+    let at-if3 = c .before in
+    let d = at-if3 .before in
+    let a = start d .args in (
+      playing-next 0 (a .part) (kind d) (omega (arith, part-known (start d))) refl (fits-first at-if3) (λ s. c .if4 .left (sized d ∙ sym s)),
       omega arith,
-      playing-next (v .have) (v .held) (byte l (v .i)) (omega (arith, v .inv .2)) (v .inv .1) f e,
-      length-set (v .held) (v .have) (byte l (v .i)) ∙ v .inv .2,
-      sym (from-more (v .i) l (search needs) (v .have) (v .held) (a .number) f e) ∙ v .inv .3,
+      omega (arith, inside d),
     )
 
-returns-3 : tie.Need-returns-3 Inv-loop μ-loop
-returns-3 c =
-    let at-loop = c .before in
-    let v = at-loop .loop in
-    let a = at-loop .before .before .args in
-    sym (from-end (v .i) (playerOf Records (v .have) (v .held) (a .number)) (now (a .log)) (search needs)) ∙ v .inv .3
+returns-5 : tie.Need-returns-5
+returns-5 c =
+    let at-if4 = c .before in
+    let at-if3 = at-if4 .before in
+    let d = at-if3 .before in
+    let a = start d .args in
+    c .scan-rest2 .ensures
+    ∙ sym (from-more (a .from) (now (a .log)) (inside d) 0 (a .part) (a .number) (fits-first at-if3) (λ s. at-if4 .if4 .left (sized d ∙ sym s)))
+    ∙ none-taken (at-if1 d)
 
 pub scan-record-spec : {M : Type 1} → statement M
 scan-record-spec =
     tie.close
     (tie.spec
-    Inv-loop
-    μ-loop
-    loop-holds
-    (λ c. search needs) (λ c. search needs) (λ c κs. search needs) (λ c κs. search needs)
-    returns
-    array-write-held
-    add-have
-    (λ c. search needs) (λ c. search needs) (λ c κs. search needs)
+    (λ c κs. search needs)
+    (λ c. search needs)
+    (λ c κs. search needs)
     returns-2
-    loop-less
-    loop-again
-    returns-3)
+    (λ c. search needs) (λ c κs. search needs) (λ c κs. search needs)
+    returns-3
+    (λ c. search needs) (λ c. search needs) (λ c κs. search needs)
+    returns-4
+    (λ c. search needs)
+    scan-rest-requires-2
+    returns-5)
