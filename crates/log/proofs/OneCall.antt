@@ -1,15 +1,17 @@
 -- Document 02, request [1]: one call of a player, whatever a record does. Assumes nothing.
 use mathlib.Core.Path.{_≡_, refl, sym, ap, _∙_, subst}
-use mathlib.Core.Bool.{Bool, true, false, cond, true≢false, false≢true}
+use mathlib.Core.Bool.{Bool, true, false, cond, not, _&&_, _||_, true≢false, false≢true}
 use mathlib.Core.List.{List, [], _∷_}
 use mathlib.Core.Logic.{_⊎_, inl, inr}
 use mathlib.Core.Option.{Option, none, some, Option·map}
-use Prim.Native.Nat.{ℕ, _≤_}
+use Prim.Native.Nat.{ℕ, zero, suc, _≤_}
 use native.Mathlib.Omega.{arith}
-use lib.Dec.{eqb}
-use lib.ListN.{length}
-use borrow.Author.Tests.{eq-eqb}
-use Rattle.words.proofs.BoolLaws.{by-test, cond-elim}
+use lib.Dec.{ltb, eqb}
+use lib.ListN.{length, set}
+use borrow.Author.Tests.{eq-eqb, eqb-true}
+use Rattle.words.specs.Lists.{firstOf}
+use Rattle.words.specs.Bytes.{byte}
+use Rattle.words.proofs.BoolLaws.{by-test, cond-elim, both, and-intro}
 use Rattle.model.specs.declared.Answer.{Answer}
 use Rattle.model.specs.Answers.{refusalOf}
 use Rattle.log.specs.declared.Record.{Record}
@@ -20,38 +22,68 @@ use Rattle.log.specs.declared.End.{End}
 use Rattle.log.specs.declared.End.the-variants.{More, Whole, Wrong}
 use Rattle.log.specs.declared.Scanned.{Scanned}
 use Rattle.log.specs.declared.Advanced.{Advanced}
-use Rattle.log.specs.Logs.{recordIn}
-use Rattle.log.specs.Players.{further, scan, fits, with, complete, counted, between, playerOf, advancedOf, stopped, scanned, resumed, advanced, dueRecord, playedRecord, isPlaying}
+use Rattle.log.specs.Logs.{recordIn, sizeOf}
+use Rattle.log.specs.Players.{further, scan, fits, fitsLater, fitsRecord, with, complete, counted, between, playerOf, advancedOf, stopped, scanned, resumed, advanced, dueRecord, playedRecord, isPlaying}
 use Rattle.log.specs.Plays.{Performed, Played, worldBy, onward, tried, idle, made, playOf}
 use Rattle.log.proofs.Reading.{scan-taken}
+use Rattle.log.proofs.ScanLaws.{later-fits, kind-stays}
 
--- ---- where a scan ends: a whole record is complete, and after a wrong byte the player goes on no more
+-- ---- where a scan ends: a whole record can be tried again, and after a wrong byte the player goes on no more
 
 abbrev Ends : Player → End → Type 0
 Ends p More = true ≡ true
-Ends p Whole = complete p ≡ true
+Ends p Whole = isPlaying Again (p .taken) (p .part) ≡ true
 Ends p Wrong = isPlaying (p .stage) (p .taken) (p .part) ≡ false
+
+-- a byte that was set is the byte, or 0 past the end
+set-or-zero : (P : ℕ → Type 0) (l : List ℕ) (i b : ℕ) → P b → P 0 → P (byte (set l i b) i)
+set-or-zero P [] i b onSet onZero = onZero
+set-or-zero P (x ∷ l) zero b onSet onZero = onSet
+set-or-zero P (x ∷ l) (suc i) b onSet onZero = set-or-zero P l i b onSet onZero
+
+-- the last byte of a complete line is its level
+line-size : (t : ℕ) → suc t ≡ sizeOf 2 → t ≡ 1
+unfolding sizeOf firstOf
+line-size t h = omega (arith, h)
+
+level-kept : (t : ℕ) (part : List ℕ) (b : ℕ) → fitsRecord t (byte part 0) b ≡ true → suc t ≡ sizeOf (byte (set part t b) 0)
+    → fitsLater (byte (set part t b) 0) (byte (set part t b) 1) ≡ true
+unfolding fitsLater
+level-kept t part b f e = by-test (eqb (byte (set part t b) 0) 2) line (λ n. rw n)
+  where
+    line : eqb (byte (set part t b) 0) 2 ≡ true → not (eqb (byte (set part t b) 0) 2) || ltb (byte (set part t b) 1) 2 ≡ true
+    line k =
+        let two : byte (set part t b) 0 ≡ 2 = eqb-true (byte (set part t b) 0) 2 k in
+        let one : t ≡ 1 = line-size t (e ∙ ap sizeOf two) in
+        let stays : byte (set part t b) 0 ≡ byte part 0 = kind-stays t part b (omega (arith, one)) in
+        let level : fitsLater (byte part 0) b ≡ true = sym (later-fits t (byte part 0) b (omega (arith, one))) ∙ f in
+        let low : ltb b 2 ≡ true = subst (λ (x : ℕ). fitsLater x b ≡ true) (sym stays ∙ two) level in
+        rw two (subst (λ (i : ℕ). ltb (byte (set part i b) 1) 2 ≡ true) (sym one) (set-or-zero (λ (x : ℕ). ltb x 2 ≡ true) part 1 b low refl))
+
+-- one byte more makes it complete
+complete-again : (p : Player) (b : ℕ) → fits p b ≡ true → complete (with p b) ≡ true → isPlaying Again (with p b .taken) (with p b .part) ≡ true
+unfolding fits with complete isPlaying
+complete-again p b f c = go (p .stage) (p .taken) (p .part) (p .number) f c
+  where
+    go : (s : Stage) (t : ℕ) (part : List ℕ) (n : ℕ) → fits (playerOf s t part n) b ≡ true → complete (with (playerOf s t part n) b) ≡ true
+        → isPlaying Again (with (playerOf s t part n) b .taken) (with (playerOf s t part n) b .part) ≡ true
+    go Header t part n f c = absurd (by-test (eqb t 4) (λ e. false≢true (rw e at c)) (λ e. false≢true (rw e at c)))
+    go Records t part n f c =
+        let size : eqb (suc t) (sizeOf (byte (set part t b) 0)) ≡ true = both (ltb 0 (suc t)) (eqb (suc t) (sizeOf (byte (set part t b) 0))) c .1 in
+        let level : fitsLater (byte (set part t b) 0) (byte (set part t b) 1) ≡ true = level-kept t part b f (eqb-true (suc t) (sizeOf (byte (set part t b) 0)) size) in
+        rw (level, size, both (ltb 0 (suc t)) (eqb (suc t) (sizeOf (byte (set part t b) 0))) c .0)
+    go Again t part n f c = absurd (false≢true f)
+    go Broken t part n f c = absurd (false≢true f)
 
 scan-ends : (p : Player) (l : List ℕ) → Ends (scan p l .player) (scan p l .end)
 unfolding scan isPlaying
 scan-ends p [] = refl
 scan-ends p (b ∷ l) =
     cond-elim (λ (s : Scanned). Ends (s .player) (s .end)) (fits p b)
-    (λ _.
+    (λ f.
     cond-elim (λ (s : Scanned). Ends (s .player) (s .end)) (complete (with p b)) {x = record { player = with p b; taken = 1; end = Whole }} {y = further (scan (with p b) l)}
-    (λ c. c) (λ _. scan-ends (with p b) l))
+    (complete-again p b f) (λ _. scan-ends (with p b) l))
     (λ _. refl)
-
--- a complete record, held, is one that can be tried again
-complete-again : (p : Player) → complete p ≡ true → isPlaying Again (p .taken) (p .part) ≡ true
-unfolding complete isPlaying
-complete-again p c = go (p .stage) (p .taken) (p .part) (p .number) c
-  where
-    go : (s : Stage) (t : ℕ) (part : List ℕ) (n : ℕ) → complete (playerOf s t part n) ≡ true → isPlaying Again t part ≡ true
-    go Header t part n c = absurd (false≢true c)
-    go Records t part n c = c
-    go Again t part n c = absurd (false≢true c)
-    go Broken t part n c = absurd (false≢true c)
 
 -- ---- the ways out of a call, before it meets the card: the player stands; tries its record again; has taken all; has a whole record; met a wrong byte
 
@@ -63,7 +95,7 @@ module _ (p : Player) (l : List ℕ) (P : Advanced → Type 0)
     (onStand : isPlaying (p .stage) (p .taken) (p .part) ≡ false → P (stopped p))
     (onAgain : isPlaying Again (p .taken) (p .part) ≡ true → P (advancedOf p 0 0 true))
     (onMore : P (advancedOf (scan p l .player) (scan p l .taken) 0 false))
-    (onWhole : complete (scan p l .player) ≡ true → P (advancedOf (holding (scan p l .player)) (scan p l .taken) 0 true))
+    (onWhole : isPlaying Again (scan p l .player .taken) (scan p l .player .part) ≡ true → P (advancedOf (holding (scan p l .player)) (scan p l .taken) 0 true))
     (onWrong : isPlaying (scan p l .player .stage) (scan p l .player .taken) (scan p l .player .part) ≡ false
     → P (advancedOf (scan p l .player) (scan p l .taken) 30 false)) where
   by-end : (e : End) → Ends (scan p l .player) e → P (scanned (scan p l) e)
@@ -180,5 +212,5 @@ module _ {W : Type 0} (perform : W → Record → Performed W) where
   unfolding playOf
   tries-again p w l =
       advance-elim p l (Tries-after w) (λ _. none-due p w 0 30) (λ e. tried-again p w 0 e) (none-due (scan p l .player) w (scan p l .taken) 0)
-      (λ c. tried-again (holding (scan p l .player)) w (scan p l .taken) (complete-again (scan p l .player) c))
+      (λ c. tried-again (holding (scan p l .player)) w (scan p l .taken) c)
       (λ _. none-due (scan p l .player) w (scan p l .taken) 30)

@@ -36,17 +36,17 @@ broken p = playerOf Broken 0 noPart (p .number)
 
 -- ---- the players that go on: part of the header or of a record is taken, or all of a record that is to be tried again. Any other one answers 30
 
-unfoldable pub isPlaying : Stage → (taken : ℕ) → (part : List ℕ) → Bool
-isPlaying Header taken part = ltb taken 5
-isPlaying Records taken part = eqb taken 0 || ltb taken (sizeOf (byte part 0))
-isPlaying Again taken part = ltb 0 taken && eqb taken (sizeOf (byte part 0))
-isPlaying Broken taken part = false
-
--- ---- one byte
-
 -- behind the kind byte of a record: of a line 0 or 1, else any byte
 unfoldable pub fitsLater : (kind b : ℕ) → Bool
 fitsLater kind b = not (eqb kind 2) || ltb b 2
+
+unfoldable pub isPlaying : Stage → (taken : ℕ) → (part : List ℕ) → Bool
+isPlaying Header taken part = ltb taken 5
+isPlaying Records taken part = eqb taken 0 || ltb taken (sizeOf (byte part 0))
+isPlaying Again taken part = ltb 0 taken && eqb taken (sizeOf (byte part 0)) && fitsLater (byte part 0) (byte part 1)
+isPlaying Broken taken part = false
+
+-- ---- one byte
 
 -- behind `taken` bytes of a record: the first one is a kind
 unfoldable pub fitsRecord : (taken kind b : ℕ) → Bool

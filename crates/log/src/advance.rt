@@ -13,6 +13,7 @@ use crate::Scanned;
 use crate::Stage;
 use crate::format::record_in;
 use crate::format::size_of;
+use crate::scan::fits_later;
 use crate::scan::scan_header;
 use crate::scan::scan_record;
 use model::Answer;
@@ -44,12 +45,14 @@ fn is_playing(player: Player) -> bool
     ensures { λ r. ⌜ r ≡ isPlaying (player .stage) (player .taken) (player .part) ⌝ }
 {
     let taken = player.taken;
-    let size = size_of(player.part[0]);
+    let kind = player.part[0];
+    let size = size_of(kind);
+    let fits = fits_later(kind, player.part[1]);
     let stage = player.stage;
     match stage {
         Stage::Header => taken < 5,
         Stage::Records => taken == 0 || taken < size,
-        Stage::Again => 0 < taken && taken == size,
+        Stage::Again => (0 < taken) & (taken == size) & fits,
         Stage::Broken => false,
     }
 }

@@ -33,7 +33,7 @@ fn broken(number: u64, taken: usize) -> Scanned
 }
 
 // Whether a byte fits behind the kind byte of a record: of a line it is 0 or 1.
-fn fits_later(kind: u8, b: u8) -> bool
+pub fn fits_later(kind: u8, b: u8) -> bool
     ensures { λ r. ⌜ r ≡ fitsLater kind b ⌝ }
 {
     kind != 2 || b < 2
