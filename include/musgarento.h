@@ -1,10 +1,13 @@
 /*
- * The interrupts of one PCIe endpoint function: pin (INTx), MSI and MSI-X; and
- * a switch between up to eight such cards and the host.
+ * The interrupts of one PCIe endpoint function: pin (INTx), MSI and MSI-X; a
+ * switch between up to eight such cards and the host; and logs of calls, which
+ * are recorded and played again.
  *
  * `rt staticlib capi` builds the functions of a card as
- * target/staticlib/libcapi.a, and `rt staticlib capi_switch` those of a switch
- * (musgarento_switch_*) as target/staticlib/libcapi_switch.a.
+ * target/staticlib/libcapi.a, `rt staticlib capi_switch` those of a switch
+ * (musgarento_switch_*) as target/staticlib/libcapi_switch.a, and
+ * `rt staticlib capi_log` those of logs (musgarento_play, musgarento_log_*) as
+ * target/staticlib/libcapi_log.a.
  *
  * A card crosses this interface as 289 bytes, those that stand in a saved
  * image from the flags to the last configuration byte, numbers little-endian:
@@ -26,11 +29,22 @@
  *     byte 2 + k     the wires of port k, 0 to 7: bit p - 1 is the level of
  *                    card pin p, bits 7:4 are 0
  *
+ * A player of a log crosses as 25 bytes; 25 zeros are a player that has taken
+ * nothing yet:
+ *
+ *     byte 0         what it reads: 0 mark and version, 1 records, 2 nothing
+ *                    until the record that it holds is tried again, 3 nothing
+ *                    any more
+ *     byte 1         how many bytes of the header or of a record it has taken
+ *     bytes 2 to 16  the bytes of that record
+ *     bytes 17 to 24 the number of records that were complete, little-endian
+ *
  * Every function takes any bytes, numbers and lengths, and returns 0 or the
  * number of its refusal. A refused call changes no byte of card, table,
  * pending array, switch or output, and sets value, count and answer to 0; only
- * a card's start that is refused with 10 to 17 leaves a card of 289 zeros. The
- * output's bytes behind what is sent keep their contents.
+ * a card's start that is refused with 10 to 17 leaves a card of 289 zeros, and
+ * a player that met a wrong byte keeps that. The output's bytes behind what is
+ * sent keep their contents.
  *
  * A rule is about the whole number that is handed in, and no number is cut: a
  * width of 260 is not a width of 4, and port 256 is not port 0. Only a write's
@@ -62,17 +76,30 @@ extern "C" {
    sends upstream: four wire packets of a port that goes down. */
 #define MUSGARENTO_SWITCH_BYTES 10
 #define MUSGARENTO_SWITCH_PACKET_BYTES 64
+/* The bytes of a player, of the beginning of a log, and of its longest
+   record. */
+#define MUSGARENTO_PLAYER_BYTES 25
+#define MUSGARENTO_LOG_HEADER_BYTES 5
+#define MUSGARENTO_RECORD_BYTES 15
 
 /* The refusals, in the order in which they are checked. */
 enum musgarento_refusal {
     MUSGARENTO_ACCEPTED = 0,
 
-    /* Of every function. Another length than 289, 256, 6 and 10 of card,
-       configuration, sizes or switch. Of a switch also bytes that no switch
-       has, that is a port's byte above 15, or at its start, which does not ask
-       what the bytes were, a requester above FFFFh. Nothing changes, not even
-       the card of a start. */
+    /* Of every function. Another length than 289, 256, 6, 10 and 25 of card,
+       configuration, sizes, switch or player. Of a switch also bytes that no
+       switch has, that is a port's byte above 15, or at its start, which does
+       not ask what the bytes were, a requester above FFFFh. Of a player also a
+       first byte above 3, or a card whose flags byte has another bit than bits
+       0 and 1 set. Of the recorder a kind that is not 1 to 5, or a value of a
+       configuration write above FFFFFFFFh. Nothing changes, not even the card
+       of a start. */
     MUSGARENTO_LENGTHS = 60,
+
+    /* Of a player: */
+    /* wrong byte of mark, version, kind or line; or a player that no log
+       leaves behind */
+    MUSGARENTO_LOG = 30,
 
     /* Of a switch; then 6: */
     /* port above 7; bytes that are no single packet (any requester, address
@@ -242,6 +269,51 @@ uint8_t musgarento_switch_packet(uint8_t *state, size_t state_len,
 uint8_t musgarento_switch_down(uint8_t *state, size_t state_len,
                                uint64_t port,
                                uint8_t *out, size_t out_len, size_t *count);
+
+/* The kinds of the records of a log. */
+enum musgarento_record {
+    MUSGARENTO_RECORD_EVENT = 1,
+    MUSGARENTO_RECORD_LINE = 2,
+    MUSGARENTO_RECORD_CONFIG_WRITE = 3,
+    MUSGARENTO_RECORD_BAR_WRITE = 4,
+    MUSGARENTO_RECORD_RESET = 5
+};
+
+/* Plays a log on a card: takes the bytes up to the end of the first complete
+   record, and makes its call. `taken` is how many bytes were taken; those that
+   were not are handed in again with what follows them. `ended` is 1 if a
+   record's call was made, else 0; `refusal`, `answer` and `count` are those of
+   that call, else 0, and its packets stand in the output.
+
+   A record whose call is refused is done, and the next one follows; only after
+   6 the next call takes no bytes and makes the same record's call again. With
+   an output of MUSGARENTO_PACKET_BYTES there is no 6. At the first wrong byte
+   this returns 30; it and all bytes behind it are not taken, and every later
+   call with that player returns 30. Refusals: 60, 30. Beside 30 `ended` is 0
+   and card, table, pending array and output are as they were. */
+uint8_t musgarento_play(uint8_t *card, size_t card_len,
+                        uint8_t *table, size_t table_len,
+                        uint8_t *pending, size_t pending_len,
+                        uint8_t *player, size_t player_len,
+                        const uint8_t *log, size_t log_len,
+                        uint8_t *out, size_t out_len,
+                        size_t *taken, uint8_t *ended, uint8_t *refusal,
+                        uint8_t *answer, size_t *count);
+
+/* Writes the beginning of a log, mark and version; count is the number of
+   bytes. Refusal: 6. */
+uint8_t musgarento_log_begin(uint8_t *out, size_t out_len, size_t *count);
+
+/* Writes the record of a call that was made and answered with `refusal` (0 if
+   it was accepted); count is the number of bytes. A call that was refused with
+   6 did nothing, and has no record: count is 0. `kind` is a musgarento_record;
+   `value` is an event's number, the level of a line (0 is low, anything else
+   high) or what is written. Numbers that a kind has no use for are passed over.
+   Another number that is too wide for the record is recorded as the largest
+   one that fits, which the card refuses as well. Refusals: 60, 6. */
+uint8_t musgarento_log_record(uint64_t kind, uint64_t bar, uint64_t offset,
+                              uint64_t width, uint64_t value, uint8_t refusal,
+                              uint8_t *out, size_t out_len, size_t *count);
 
 #ifdef __cplusplus
 }
