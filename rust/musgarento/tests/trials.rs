@@ -119,6 +119,42 @@ fn logs_that_are_cut() {
     assert!(text.starts_with("Records: 0\n"));
 }
 
+/// The bytes that a line begins with, in hexadecimal.
+fn leading_bytes(line: &str) -> Vec<u8> {
+    let words = line.split_whitespace();
+    let bytes = words.take_while(|word| word.len() == 2);
+    bytes
+        .map_while(|word| u8::from_str_radix(word, 16).ok())
+        .collect()
+}
+
+/// The bytes of the example in docs/LOG.md.
+fn documented() -> Vec<u8> {
+    let text = String::from_utf8(stored("../docs/LOG.md")).unwrap();
+    let (_, example) = text.split_once("An example, of 34 bytes:").unwrap();
+    let (example, _) = example.split_once("\n## ").unwrap();
+    example.lines().flat_map(leading_bytes).collect()
+}
+
+#[test]
+fn the_example_of_the_document() {
+    let log = documented();
+    assert_eq!(log.len(), 34);
+    let (text, result) = played(&log[..]);
+    assert_eq!(result, Ok(()));
+    let lines: Vec<&str> = text.lines().collect();
+    let expected = [
+        "1. configuration write, offset 0004h, width 2, value 00000006h: accepted",
+        "2. BAR 0 write, offset 0000003Ch, width 4, value 0000000000000001h: accepted",
+        "3. event 3: Lost",
+        "4. line high: accepted",
+        "5. reset: accepted",
+    ];
+    for line in expected {
+        assert!(lines.contains(&line));
+    }
+}
+
 #[test]
 fn files_that_are_missing_or_refused() {
     let error = |card: &str, log: &str| {
