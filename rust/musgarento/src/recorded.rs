@@ -59,12 +59,11 @@ use std::io::{self, Write};
 ///
 /// A restore has no record. An accepted one ends the log, which is then
 /// complete: it tells of the calls before the restore, and of none after it.
-/// [`into_parts`] gives the card back, and [`Recorded::new`] begins another log
-/// with it, which is played from the card's image.
+/// [`finish`] gives the card back, and [`Recorded::new`] begins another log with
+/// it, which is played from the card's image.
 ///
 /// [`error`]: Recorded::error
 /// [`finish`]: Recorded::finish
-/// [`into_parts`]: Recorded::into_parts
 #[derive(Debug)]
 pub struct Recorded<W> {
     card: Card,

@@ -391,8 +391,8 @@ fn random_trials_with_random_cuts() {
     }
 }
 
-#[test]
-fn a_large_card() {
+/// A card with 2,048 MSI-X vectors, and MSI-X at 40h.
+fn large() -> Card {
     let mut config = [0; 256];
     config[0x06] = 0x10;
     config[0x34] = 0x40;
@@ -405,33 +405,31 @@ fn a_large_card() {
         events: 2048,
         requester: 0x0100,
     };
-    let card = Card::start(&start).unwrap();
-    let write = |offset, value| Record::ConfigWrite {
-        offset,
-        width: 2,
-        value,
-    };
-    let mut calls = vec![Record::Line(true), write(COMMAND, 6), write(0x42, 0xC000)];
-    for vector in 0..2048 {
-        calls.push(Record::BarWrite {
+    Card::start(&start).unwrap()
+}
+
+#[test]
+fn the_most_packets_of_a_record() {
+    let mut calls = vec![
+        Record::Line(true),
+        config(COMMAND, 2, 6),
+        config(0x42, 2, 0xC000),
+    ];
+    for vector in 0..2048_u32 {
+        let half = |at: u32, value| Record::BarWrite {
             bar: 0,
-            offset: 16 * vector,
+            offset: 16 * vector + at,
             width: 8,
-            value: 0x1_FEE0_0000,
-        });
-        calls.push(Record::BarWrite {
-            bar: 0,
-            offset: 16 * vector + 8,
-            width: 8,
-            value: 0,
-        });
-        calls.push(Record::Event(vector as u16));
+            value,
+        };
+        let event = Record::Event(vector as u16);
+        calls.extend([half(0, 0x1_FEE0_0000), half(8, 0), event]);
     }
-    calls.extend([write(0x42, 0), write(0x42, 0x8000)]);
-    let (end, log) = recorded(card.clone(), &calls);
+    calls.extend([config(0x42, 2, 0), config(0x42, 2, 0x8000)]);
+    let (end, log) = recorded(large(), &calls);
     let last = end.outcomes.last().unwrap();
     assert_eq!(last.packets.len(), PACKET_BYTES);
-    same(&cut(card, &log, &[1000, 20_001]), &end);
+    same(&cut(large(), &log, &[1000, 20_001]), &end);
 }
 
 #[test]

@@ -189,8 +189,10 @@ impl Host {
         assert_eq!(self.play(log), stopped(30, taken));
         assert_eq!(self.player[0], 3);
         assert_eq!(self.player[17..], before.player[17..]);
+        let broken = self.clone();
         for later in [&log[taken..], &HEADER, &RESET, &[]] {
             assert_eq!(self.play(later), stopped(30, 0));
+            assert_eq!(*self, broken);
         }
         self.player.clone_from(&before.player);
         assert_eq!(*self, before);
@@ -434,13 +436,13 @@ fn players_that_no_log_leaves_behind() {
         [2, 255, 4],
     ];
     for player in players {
-        let mut host = Host::begun();
-        host.player[..3].copy_from_slice(&player);
-        let (card, out) = (host.card.clone(), host.out.clone());
         for log in [&[1][..], &HEADER, &RESET, &[]] {
+            let mut host = Host::begun();
+            host.player[..3].copy_from_slice(&player);
+            let before = host.clone();
             assert_eq!(host.play(log), stopped(30, 0));
+            assert_eq!(host, before);
         }
-        assert_eq!((host.card, host.out), (card, out));
     }
 }
 
