@@ -233,7 +233,12 @@ fn bytes_text(
     byte_name: impl Fn(usize) -> String,
     lines: &mut Vec<String>,
 ) {
-    let places = (0..tested.len()).filter(|&at| tested[at] != second[at]);
+    if tested.len() != second.len() {
+        let (proved, second) = (tested.len(), second.len());
+        lines.push(format!("{name}: proved {proved} bytes, second {second}"));
+    }
+    let both = tested.len().min(second.len());
+    let places = (0..both).filter(|&at| tested[at] != second[at]);
     let count = places.clone().count();
     for at in places.take(8) {
         let mut field = byte_name(at);

@@ -268,8 +268,8 @@ impl LogGenerator {
         match random.below(5) {
             0 => Step::Length(Part::Player, near_length(random, PLAYER_BYTES)),
             1 => {
-                let bit = 4 << random.below(6);
-                Step::Byte(Part::Player, 0, player[0] | bit)
+                let with_bit = player[0] | 4 << random.below(6);
+                Step::Byte(Part::Player, 0, random.pick(&[4, with_bit]))
             }
             2 => {
                 let mut bytes = random.bytes(PLAYER_BYTES);
