@@ -1,11 +1,11 @@
-//! Finds the archives of the proved card and of the proved switch.
+//! Finds the archives of the proved card, switch and player of logs.
 
 use std::env;
 use std::path::{Path, PathBuf};
 use std::process::exit;
 
 /// The libraries, each under the name of the crate that it is built from.
-const LIBRARIES: [&str; 2] = ["capi", "capi_switch"];
+const LIBRARIES: [&str; 3] = ["capi", "capi_switch", "capi_log"];
 
 /// Names a folder that has the archives.
 const VARIABLE: &str = "MUSGARENTO_LIB_DIR";
@@ -41,7 +41,7 @@ fn main() {
     println!("cargo:rustc-link-search=native={}", folder.display());
     let missing = LIBRARIES.map(|library| !link(&folder, library));
     if missing.contains(&true) {
-        eprintln!("{VARIABLE} names another folder that has both archives.");
+        eprintln!("{VARIABLE} names another folder that has all archives.");
         exit(1);
     }
 }

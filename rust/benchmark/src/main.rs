@@ -1,14 +1,17 @@
 //! Times of the proved card's and switch's calls, through the C interface,
 //! against the second model, and of a card's against a plain scan of the
-//! buffers. Prints a Markdown table. `--rounds R` sets the number of rounds.
+//! buffers; then those of logs played against the same calls made directly.
+//! Prints two Markdown tables. `--rounds R` sets the number of rounds.
 
 mod cases;
 mod floor;
+mod log;
 mod measure;
 mod state;
 mod switch;
 
 use cases::Case;
+use log::LogCase;
 use measure::{medians, ROUND};
 use std::env;
 use std::hint::black_box;
@@ -62,6 +65,54 @@ fn print_row(case: &mut Case, rounds: usize) {
     );
 }
 
+/// Measures a log and prints its row.
+fn print_log_row(case: &mut LogCase, rounds: usize) {
+    let LogCase {
+        name,
+        vectors,
+        played,
+        calls,
+        second,
+    } = case;
+    for work in [&mut *played, calls, second] {
+        assert_eq!(work(2 * log::RECORDS as u64), 0, "{name}");
+    }
+    let [played, calls, second] = medians(
+        [
+            &mut |records| {
+                black_box(played(records));
+            },
+            &mut |records| {
+                black_box(calls(records));
+            },
+            &mut |records| {
+                black_box(second(records));
+            },
+        ],
+        rounds,
+    );
+    let (by_calls, by_second) = (played / calls, played / second);
+    println!(
+        "| {name} | {vectors} | {played:.0} | {calls:.0} | {by_calls:.2} | {second:.0} | {by_second:.2} |"
+    );
+}
+
+/// Measures all logs and prints their table.
+fn print_logs(rounds: usize) {
+    let records = log::RECORDS;
+    println!("\nNanoseconds for a record, measured in the same way: a log of {records} records,");
+    println!("played from memory over and over, one record at each call, with all bytes behind");
+    println!("it handed in; the same calls made directly, through the C interface too; and the");
+    println!("log played by the second model. Each has its own card and an output of 40,976");
+    println!("bytes. Twenty records of a mixed log are eleven events that are sent, held or");
+    println!("merged, two lines and seven writes, some of which mask and unmask.\n");
+    println!("| Log | N | Log played | Same calls, made directly | Played / calls | Second model | Proved / second |");
+    println!("|---|---:|---:|---:|---:|---:|---:|");
+    for case in &mut log::cases() {
+        print_log_row(case, rounds);
+    }
+}
+
 fn main() -> ExitCode {
     let Some(rounds) = rounds() else {
         eprintln!("usage: benchmark [--rounds R]");
@@ -86,5 +137,6 @@ fn main() -> ExitCode {
     for case in &mut switch::cases() {
         print_row(case, rounds);
     }
+    print_logs(rounds);
     ExitCode::SUCCESS
 }

@@ -1,6 +1,6 @@
 //! Calls and the other steps of a trial.
 
-use crate::world::{Part, ROOM, SWITCH_ROOM};
+use crate::world::{Part, LOG_HEADER_BYTES, RECORD_BYTES, ROOM, SWITCH_ROOM};
 
 /// One call with its arguments, but for card, buffers, switch and output.
 #[derive(Clone, Debug, PartialEq, Eq)]
@@ -32,8 +32,10 @@ pub enum Call {
     /// The image is kept under this number.
     Save(usize),
     Restore(Image),
-    /// A call of a switch; the others are of a card.
+    /// A call of a switch.
     Switch(SwitchCall),
+    /// A call of a player or recorder of logs; the others are of a card.
+    Log(LogCall),
 }
 
 /// One call of a switch.
@@ -47,6 +49,39 @@ pub enum SwitchCall {
     },
     /// This port goes down.
     Down(u64),
+}
+
+/// One call of a player or of a recorder of logs.
+#[derive(Clone, Debug, PartialEq, Eq)]
+pub enum LogCall {
+    /// The player is handed these bytes.
+    Play(Vec<u8>),
+    /// The beginning of a log is written.
+    Begin,
+    /// A record is written.
+    Record(Recording),
+    /// Calls of the card are made and recorded, and their log is played.
+    Trial(Recorded),
+}
+
+/// The numbers of a call of the recorder.
+#[derive(Clone, Copy, Debug, PartialEq, Eq)]
+pub struct Recording {
+    pub kind: u64,
+    pub bar: u64,
+    pub offset: u64,
+    pub width: u64,
+    pub value: u64,
+    pub refusal: u8,
+}
+
+/// Calls of a card to record, and how their log is played.
+#[derive(Clone, Debug, PartialEq, Eq)]
+pub struct Recorded {
+    /// Each with the length of its output.
+    pub calls: Vec<(Call, usize)>,
+    /// The most bytes that the player is handed at once.
+    pub piece: usize,
 }
 
 /// What a start is given.
@@ -105,6 +140,7 @@ pub enum Step {
 pub enum Subject {
     Card,
     Switch,
+    Log,
 }
 
 impl Subject {
@@ -113,6 +149,7 @@ impl Subject {
         match self {
             Subject::Card => "card",
             Subject::Switch => "switch",
+            Subject::Log => "log",
         }
     }
 }
@@ -134,8 +171,12 @@ pub const CARD_KINDS: [&str; 10] = [
 /// The kinds of calls of a switch, in the order of `SwitchCall`.
 pub const SWITCH_KINDS: [&str; 3] = ["switch start", "packet", "port down"];
 
+/// The kinds of calls of logs, in the order of `LogCall`.
+pub const LOG_KINDS: [&str; 4] = ["play", "log begin", "log record", "recorded trial"];
+
 impl Call {
-    /// The place of the call's kind in `CARD_KINDS` or `SWITCH_KINDS`.
+    /// The place of the call's kind in `CARD_KINDS`, `SWITCH_KINDS` or
+    /// `LOG_KINDS`.
     pub fn kind(&self) -> usize {
         match self {
             Call::Start(_) => 0,
@@ -151,6 +192,10 @@ impl Call {
             Call::Switch(SwitchCall::Start(_)) => 0,
             Call::Switch(SwitchCall::Packet { .. }) => 1,
             Call::Switch(SwitchCall::Down(_)) => 2,
+            Call::Log(LogCall::Play(_)) => 0,
+            Call::Log(LogCall::Begin) => 1,
+            Call::Log(LogCall::Record(_)) => 2,
+            Call::Log(LogCall::Trial(_)) => 3,
         }
     }
 
@@ -163,6 +208,28 @@ impl Call {
                 | Call::BarRead { .. }
                 | Call::Restore(_)
                 | Call::Switch(SwitchCall::Start(_))
+                | Call::Log(LogCall::Trial(_))
+        )
+    }
+
+    /// Whether what the call writes to its output are packets.
+    pub fn sends_packets(&self) -> bool {
+        match self {
+            Call::Save(_) => false,
+            Call::Log(call) => matches!(call, LogCall::Play(_)),
+            other => other.has_output(),
+        }
+    }
+
+    /// Whether a log can hold the call.
+    pub fn has_record(&self) -> bool {
+        matches!(
+            self,
+            Call::ConfigWrite { .. }
+                | Call::BarWrite { .. }
+                | Call::Event(_)
+                | Call::Line(_)
+                | Call::Reset
         )
     }
 
@@ -170,6 +237,8 @@ impl Call {
     pub fn most_bytes(&self) -> usize {
         match self {
             Call::Switch(_) => SWITCH_ROOM,
+            Call::Log(LogCall::Begin) => LOG_HEADER_BYTES,
+            Call::Log(LogCall::Record(_)) => RECORD_BYTES,
             _ => ROOM,
         }
     }
@@ -182,6 +251,17 @@ pub struct Outcome {
     pub answer: Option<u8>,
     pub value: Option<u64>,
     pub count: Option<usize>,
+    /// Of a call of the player.
+    pub played: Option<Played>,
+}
+
+/// What else a call of the player gave: how many bytes it took, whether a
+/// record's call was made, and its refusal.
+#[derive(Clone, Copy, Debug, PartialEq, Eq)]
+pub struct Played {
+    pub taken: usize,
+    pub ended: u8,
+    pub refusal: u8,
 }
 
 impl Outcome {
@@ -192,6 +272,7 @@ impl Outcome {
             answer: None,
             value: None,
             count: None,
+            played: None,
         }
     }
 
@@ -207,6 +288,22 @@ impl Outcome {
     pub fn wrote(refusal: u8, count: usize) -> Outcome {
         Outcome {
             count: Some(count),
+            ..Outcome::number(refusal)
+        }
+    }
+
+    /// The outcome of a call of the player that took bytes and made no call of
+    /// the card.
+    pub fn took(refusal: u8, taken: usize) -> Outcome {
+        let (ended, of_record) = (0, 0);
+        Outcome {
+            answer: Some(0),
+            count: Some(0),
+            played: Some(Played {
+                taken,
+                ended,
+                refusal: of_record,
+            }),
             ..Outcome::number(refusal)
         }
     }

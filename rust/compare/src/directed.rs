@@ -3,6 +3,7 @@
 mod damage;
 mod interface;
 mod interrupts;
+mod log;
 mod starts;
 mod switch;
 
@@ -18,11 +19,12 @@ use crate::world::{Part, World, ROOM};
 /// The result of running trials.
 type Run = Result<(), Box<Failure>>;
 
-/// Runs all directed trials of cards or of switches.
+/// Runs all directed trials of cards, of switches or of logs.
 pub fn run(runner: &mut Runner<'_>) -> Run {
     match runner.subject {
         Subject::Card => run_cards(runner),
         Subject::Switch => switch::run(runner),
+        Subject::Log => log::run(runner),
     }
 }
 

@@ -1,6 +1,7 @@
 //! Random trials. The next steps are chosen by the state that the second model
 //! is in, so that they reach something.
 
+mod log;
 mod switch;
 
 use crate::call::{Call, Damage, Given, Image, Room, Step, Subject};
@@ -29,6 +30,7 @@ pub fn trial(subject: Subject, seed: u64, trial: u64) -> Box<dyn Generator> {
     match subject {
         Subject::Card => Box::new(CardGenerator::new(random)),
         Subject::Switch => Box::new(switch::SwitchGenerator::new(random)),
+        Subject::Log => Box::new(log::LogGenerator::new(random)),
     }
 }
 
@@ -339,7 +341,7 @@ impl CardGenerator {
     fn call_step(&mut self, pair: &Pair<'_>, layout: &Layout) -> Step {
         let call = self.call(pair, layout);
         let random = &mut self.random;
-        let enough = 320 + 20 * layout.vectors().max(32);
+        let enough = enough(layout);
         let room = match random.below(12) {
             0 => Room::Exact,
             1 => Room::Short,
@@ -527,6 +529,11 @@ impl CardGenerator {
     }
 }
 
+/// A length of output with room for each call of the card.
+fn enough(layout: &Layout) -> usize {
+    320 + 20 * layout.vectors().max(32)
+}
+
 /// A length near this one.
 fn near_length(random: &mut Random, length: usize) -> usize {
     let less = length.saturating_sub(random.pick(&[1, 8, 16]));
@@ -591,8 +598,8 @@ fn foreign_image(random: &mut Random) -> Vec<u8> {
         card: vec![0; CARD_BYTES],
         table: vec![0; table_bytes(layout.vectors())],
         pending: vec![0; pending_bytes(layout.vectors())],
-        switch: Vec::new(),
         out: vec![0; ROOM],
+        ..World::default()
     };
     let mut calls = vec![Call::Start(given)];
     if let Some(msi) = layout.msi {

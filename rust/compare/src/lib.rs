@@ -1,10 +1,10 @@
-//! Compares the proved card and the proved switch, through the C interface,
-//! with the second model.
+//! Compares the proved card, the proved switch and the proved player and
+//! recorder of logs, through the C interface, with the second model.
 //!
 //! Both are given the same calls with the same bytes, and after every call the
-//! refusal, answer, value and count and every byte of card, table, pending
-//! array, switch and output are compared. There are directed trials, for the
-//! edges of each rule, and random ones.
+//! refusal, answer, value and count, the bytes taken and every byte of card,
+//! table, pending array, switch, player and output are compared. There are
+//! directed trials, for the edges of each rule, and random ones.
 
 pub mod call;
 pub mod directed;
@@ -16,6 +16,7 @@ pub mod pair;
 pub mod print;
 pub mod proved;
 pub mod random;
+pub mod recorded;
 pub mod run;
 pub mod second;
 pub mod shrink;

@@ -1,7 +1,8 @@
 //! `compare --calls N --seed S`: the comparison of cards, then that of
-//! switches. Each runs its directed trials, then random ones until it has made
-//! N calls. `--directed 0` leaves out the directed ones, and `--trial K` runs
-//! only random trial K. `--cards 0` or `--switches 0` leaves out a comparison.
+//! switches, then that of logs. Each runs its directed trials, then random ones
+//! until it has made N calls, or played N records of logs. `--directed 0` leaves
+//! out the directed ones, and `--trial K` runs only random trial K. `--cards 0`,
+//! `--switches 0` or `--logs 0` leaves out a comparison.
 
 use compare::call::Subject;
 use compare::directed;
@@ -17,10 +18,12 @@ use std::time::{Duration, Instant};
 
 const USAGE: &str = "\
 usage: compare [--calls N] [--seed S] [--directed 0|1] [--trial K]
-               [--cards 0|1] [--switches 0|1]
+               [--cards 0|1] [--switches 0|1] [--logs 0|1]
 
-Compares cards, then switches, N calls each: directed trials, then random ones.
---trial K runs only random trial K of each.";
+Compares cards, then switches, N calls each, then logs, N records: directed
+trials, then random ones. --trial K runs only random trial K of each. A million
+records of logs alone, and each kind of record by its refusals:
+compare --cards 0 --switches 0 --calls 1000000";
 
 /// What the command line asks for.
 struct Options {
@@ -30,6 +33,7 @@ struct Options {
     trial: Option<u64>,
     cards: bool,
     switches: bool,
+    logs: bool,
 }
 
 /// Reads the command line.
@@ -41,6 +45,7 @@ fn options() -> Option<Options> {
         trial: None,
         cards: true,
         switches: true,
+        logs: true,
     };
     let mut words = env::args().skip(1);
     while let Some(word) = words.next() {
@@ -52,6 +57,7 @@ fn options() -> Option<Options> {
             "--trial" => options.trial = Some(number),
             "--cards" => options.cards = number != 0,
             "--switches" => options.switches = number != 0,
+            "--logs" => options.logs = number != 0,
             _ => return None,
         }
     }
@@ -68,7 +74,7 @@ fn run(runner: &mut Runner<'_>, options: &Options) -> Result<(), Box<Failure>> {
         println!("directed trials: {} calls", runner.statistics.calls);
     }
     let mut trial = 0;
-    while runner.statistics.calls < options.calls {
+    while runner.statistics.done() < options.calls {
         runner.random_trial(options.seed, trial)?;
         trial += 1;
     }
@@ -146,7 +152,8 @@ fn main() -> ExitCode {
     println!("seed {}, {} calls", options.seed, options.calls);
     let cards = !options.cards || compare(Subject::Card, &options);
     let switches = !options.switches || compare(Subject::Switch, &options);
-    match cards && switches {
+    let logs = !options.logs || compare(Subject::Log, &options);
+    match cards && switches && logs {
         true => ExitCode::SUCCESS,
         false => ExitCode::FAILURE,
     }

@@ -15,6 +15,7 @@ pub struct Pair<'a> {
     tested: World,
     second: World,
     images: BTreeMap<usize, Vec<u8>>,
+    taken: usize,
 }
 
 /// In what the models differ after a call, line by line.
@@ -32,6 +33,8 @@ pub struct Made<'a> {
     pub other_flags: u8,
     pub switch: &'a [u8],
     pub switch_before: Vec<u8>,
+    pub player: &'a [u8],
+    pub player_before: Vec<u8>,
 }
 
 impl<'a> Pair<'a> {
@@ -42,7 +45,13 @@ impl<'a> Pair<'a> {
             tested: World::default(),
             second: World::default(),
             images: BTreeMap::new(),
+            taken: 0,
         }
+    }
+
+    /// How many bytes of logs were taken in all.
+    pub fn taken(&self) -> usize {
+        self.taken
     }
 
     /// The second model's world, which is the other's too as long as there is
@@ -79,6 +88,7 @@ impl<'a> Pair<'a> {
         let length = self.output_length(call, room, &image);
         let other_flags = other_flags(&self.second.card);
         let switch_before = self.second.switch.clone();
+        let player_before = self.second.player.clone();
         self.tested.lend_output(length);
         self.second.lend_output(length);
         let tested = (self.model)(&mut self.tested, call, &image);
@@ -88,6 +98,7 @@ impl<'a> Pair<'a> {
             let image = self.second.out[..count].to_vec();
             self.images.insert(*number, image);
         }
+        self.taken += outcome.played.map_or(0, |played| played.taken);
         Ok(Made {
             call,
             room,
@@ -97,6 +108,8 @@ impl<'a> Pair<'a> {
             other_flags,
             switch: &self.second.switch,
             switch_before,
+            player: &self.second.player,
+            player_before,
         })
     }
 
@@ -200,6 +213,15 @@ pub fn outcome_text(outcome: &Outcome) -> String {
     if let Some(count) = outcome.count {
         text += &format!(", count {count}");
     }
+    if let Some(played) = outcome.played {
+        text += &format!(", taken {}", played.taken);
+        text += &match (played.ended, played.refusal) {
+            (0, 0) => ", no record".to_string(),
+            (1, 0) => ", record accepted".to_string(),
+            (1, number) => format!(", record refused with {number}"),
+            (ended, number) => format!(", ended {ended}, refusal {number}"),
+        };
+    }
     text
 }
 
@@ -211,7 +233,12 @@ fn bytes_text(
     byte_name: impl Fn(usize) -> String,
     lines: &mut Vec<String>,
 ) {
-    let places = (0..tested.len()).filter(|&at| tested[at] != second[at]);
+    if tested.len() != second.len() {
+        let (proved, second) = (tested.len(), second.len());
+        lines.push(format!("{name}: proved {proved} bytes, second {second}"));
+    }
+    let both = tested.len().min(second.len());
+    let places = (0..both).filter(|&at| tested[at] != second[at]);
     let count = places.clone().count();
     for at in places.take(8) {
         let mut field = byte_name(at);

@@ -1,6 +1,6 @@
 //! Prints a trial so that a person can follow and replay it.
 
-use crate::call::{Call, Damage, Given, Image, Step, SwitchCall};
+use crate::call::{Call, Damage, Given, Image, LogCall, Recorded, Recording, Step, SwitchCall};
 use crate::pair::{outcome_text, Pair};
 use crate::second;
 use musgarento::Packets;
@@ -20,7 +20,7 @@ pub fn trial_text(steps: &[Step]) -> String {
             continue;
         };
         let _ = writeln!(text, "        {}", outcome_text(&made.outcome));
-        if !matches!(made.call, Call::Save(_)) {
+        if made.call.sends_packets() {
             let count = made.outcome.count.unwrap_or(0);
             packets_text(&made.out[..count], &mut text);
         }
@@ -96,7 +96,51 @@ fn call_text(call: &Call) -> String {
         Call::Save(number) => format!("save as image {number}"),
         Call::Restore(image) => image_text(image),
         Call::Switch(call) => switch_call_text(call),
+        Call::Log(call) => log_call_text(call),
     }
+}
+
+/// One call of a player or of the recorder with its arguments.
+fn log_call_text(call: &LogCall) -> String {
+    match call {
+        LogCall::Play(bytes) => format!("play {} bytes: {}", bytes.len(), hex_text(bytes)),
+        LogCall::Begin => "begin a log".to_string(),
+        LogCall::Record(recording) => recording_text(recording),
+        LogCall::Trial(trial) => recorded_text(trial),
+    }
+}
+
+fn recording_text(recording: &Recording) -> String {
+    let &Recording {
+        kind,
+        bar,
+        offset,
+        width,
+        value,
+        refusal,
+    } = recording;
+    let kind = number_text(kind);
+    let place = place_text(bar, offset, width);
+    format!("record, kind {kind}, {place}, value {value:X}h, refusal {refusal}")
+}
+
+fn recorded_text(trial: &Recorded) -> String {
+    let calls: Vec<String> = trial
+        .calls
+        .iter()
+        .map(|(call, room)| format!("{} ({room})", call_text(call)))
+        .collect();
+    format!(
+        "record (outputs) and play in pieces of {} bytes: {}",
+        trial.piece,
+        calls.join("; ")
+    )
+}
+
+/// Bytes in hexadecimal.
+fn hex_text(bytes: &[u8]) -> String {
+    let bytes: Vec<String> = bytes.iter().map(|byte| format!("{byte:02X}")).collect();
+    bytes.join(" ")
 }
 
 /// One call of a switch with its arguments.
@@ -104,12 +148,11 @@ fn switch_call_text(call: &SwitchCall) -> String {
     match call {
         SwitchCall::Start(requester) => format!("switch start, requester {requester:04X}h"),
         SwitchCall::Packet { port, packet } => {
-            let bytes: Vec<String> = packet.iter().map(|byte| format!("{byte:02X}")).collect();
             format!(
                 "packet at port {}, {} bytes: {}",
                 number_text(*port),
                 packet.len(),
-                bytes.join(" ")
+                hex_text(packet)
             )
         }
         SwitchCall::Down(port) => format!("port {} down", number_text(*port)),

@@ -1,6 +1,8 @@
-//! The proved card and the proved switch, through the C interface.
+//! The proved card, the proved switch and the proved player and recorder of
+//! logs, through the C interface.
 
-use crate::call::{Call, Outcome, SwitchCall};
+use crate::call::{Call, LogCall, Outcome, Played, Recording, SwitchCall};
+use crate::recorded;
 use crate::world::World;
 use musgarento::raw;
 
@@ -10,12 +12,21 @@ const UNSET: u8 = 0xB7;
 
 /// Makes a call. `image` is the image of a restore.
 pub fn apply(world: &mut World, call: &Call, image: &[u8]) -> Outcome {
+    match call {
+        Call::Switch(call) => apply_to_switch(world, call),
+        Call::Log(call) => apply_to_log(world, call),
+        _ => apply_to_card(world, call, image),
+    }
+}
+
+/// Makes a call of a card.
+fn apply_to_card(world: &mut World, call: &Call, image: &[u8]) -> Outcome {
     let World {
         card,
         table,
         pending,
-        switch,
         out,
+        ..
     } = world;
     let mut count = usize::from(UNSET);
     match call {
@@ -79,16 +90,75 @@ pub fn apply(world: &mut World, call: &Call, image: &[u8]) -> Outcome {
             Outcome::wrote(refusal, count)
         }
         Call::Restore(_) => Outcome::number(raw::restore(card, table, pending, image)),
-        Call::Switch(SwitchCall::Start(requester)) => {
-            Outcome::number(raw::switch_start(switch, *requester))
-        }
-        Call::Switch(SwitchCall::Packet { port, packet }) => {
+        Call::Switch(_) | Call::Log(_) => unreachable!("these are made elsewhere"),
+    }
+}
+
+/// Makes a call of a switch.
+fn apply_to_switch(world: &mut World, call: &SwitchCall) -> Outcome {
+    let (switch, out) = (&mut world.switch, &mut world.out);
+    let mut count = usize::from(UNSET);
+    match call {
+        SwitchCall::Start(requester) => Outcome::number(raw::switch_start(switch, *requester)),
+        SwitchCall::Packet { port, packet } => {
             let refusal = raw::switch_packet(switch, *port, packet, out, &mut count);
             Outcome::wrote(refusal, count)
         }
-        Call::Switch(SwitchCall::Down(port)) => {
+        SwitchCall::Down(port) => {
             let refusal = raw::switch_down(switch, *port, out, &mut count);
             Outcome::wrote(refusal, count)
         }
+    }
+}
+
+/// Makes a call of a player or of the recorder.
+fn apply_to_log(world: &mut World, call: &LogCall) -> Outcome {
+    let mut count = usize::from(UNSET);
+    match call {
+        LogCall::Play(bytes) => play(world, bytes),
+        LogCall::Begin => {
+            let refusal = raw::log_begin(&mut world.out, &mut count);
+            Outcome::wrote(refusal, count)
+        }
+        &LogCall::Record(Recording {
+            kind,
+            bar,
+            offset,
+            width,
+            value,
+            refusal: given,
+        }) => {
+            let out = &mut world.out;
+            let refusal = raw::log_record(kind, bar, offset, width, value, given, out, &mut count);
+            Outcome::wrote(refusal, count)
+        }
+        LogCall::Trial(trial) => recorded::run(&apply, world, trial),
+    }
+}
+
+fn play(world: &mut World, bytes: &[u8]) -> Outcome {
+    let (mut taken, mut count) = (usize::from(UNSET), usize::from(UNSET));
+    let (mut ended, mut refusal, mut answer) = (UNSET, UNSET, UNSET);
+    let stopped = raw::play(
+        &mut world.card,
+        &mut world.table,
+        &mut world.pending,
+        &mut world.player,
+        bytes,
+        &mut world.out,
+        &mut taken,
+        &mut ended,
+        &mut refusal,
+        &mut answer,
+        &mut count,
+    );
+    Outcome {
+        answer: Some(answer),
+        played: Some(Played {
+            taken,
+            ended,
+            refusal,
+        }),
+        ..Outcome::wrote(stopped, count)
     }
 }

@@ -1,15 +1,18 @@
 //! The second model behind the same interface of bytes.
 
+mod log;
 mod switch;
 
+pub use log::{is_player, record_bytes, Left};
 pub use switch::is_switch;
 
-use crate::call::{Call, Given, Outcome};
+use crate::call::{Call, Given, LogCall, Outcome};
+use crate::recorded;
 use crate::world::{other_flags, World, CARD_BYTES, CONFIG_AT, SIZES_AT};
 use second_model::{Answer, Card};
 
 /// The number for wrong lengths of card, configuration or sizes, and for bytes
-/// that no switch has.
+/// that no switch or player has.
 const LENGTHS: u8 = 60;
 
 /// The card in these bytes; `None` if a card has another number of bytes.
@@ -54,6 +57,12 @@ pub fn apply(world: &mut World, call: &Call, image: &[u8]) -> Outcome {
     match call {
         Call::Start(given) => return start(world, given),
         Call::Switch(call) => return switch::apply(world, call),
+        // The log of calls leads to the card that they left.
+        Call::Log(LogCall::Trial(trial)) => {
+            recorded::run(&apply, world, trial);
+            return Outcome::read(0, 1);
+        }
+        Call::Log(call) => return log::apply(world, call),
         _ => {}
     }
     let Some(mut card) = read_card(&world.card) else {
@@ -97,7 +106,9 @@ fn apply_to_card(
         ..
     } = world;
     match *call {
-        Call::Start(_) | Call::Switch(_) => unreachable!("these have no card"),
+        Call::Start(_) | Call::Switch(_) | Call::Log(_) => {
+            unreachable!("these are made elsewhere")
+        }
         Call::ConfigRead { offset, width } => {
             second_model::config_read(card, table, pending, offset, width)
         }

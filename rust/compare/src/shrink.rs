@@ -1,6 +1,6 @@
 //! Cuts a failing trial down to a short one that still fails.
 
-use crate::call::{Call, Given, Image, Room, Step, SwitchCall};
+use crate::call::{Call, Given, Image, LogCall, Recorded, Room, Step, SwitchCall};
 use crate::pair::{Difference, Model, Pair};
 use crate::world::PARTS;
 use std::time::{Duration, Instant};
@@ -34,6 +34,7 @@ pub fn shrink(model: Model<'_>, steps: &[Step]) -> Option<Failing> {
     loop {
         let before = search.found.steps.clone();
         search.leave_out();
+        search.join_pieces();
         search.simplify();
         if search.found.steps == before || search.is_over() {
             return Some(search.found);
@@ -129,6 +130,18 @@ impl<'a> Search<'a> {
         left_out
     }
 
+    /// Hands in each piece of a log together with the next one, if that fails
+    /// too.
+    fn join_pieces(&mut self) {
+        let mut at = 0;
+        while at < self.found.steps.len() && !self.is_over() {
+            let joined = joined(&self.found.steps, at);
+            if !joined.is_some_and(|steps| self.take_if_failing(&steps)) {
+                at += 1;
+            }
+        }
+    }
+
     /// Clears bytes and bits in the arguments of the steps.
     fn simplify(&mut self) {
         let mut at = 0;
@@ -182,13 +195,32 @@ impl<'a> Search<'a> {
     }
 }
 
+/// The steps with the piece at a place joined to the next piece, if there are
+/// these two.
+fn joined(steps: &[Step], at: usize) -> Option<Vec<Step>> {
+    let mut steps = steps.to_vec();
+    let first = piece(&mut steps[at])?.clone();
+    let next = steps[at + 1..].iter_mut().find_map(piece)?;
+    *next = [&first[..], next].concat();
+    steps.remove(at);
+    Some(steps)
+}
+
+/// The bytes that a step hands to a player, if it does.
+fn piece(step: &mut Step) -> Option<&mut Vec<u8>> {
+    match step {
+        Step::Call(Call::Log(LogCall::Play(bytes)), _) => Some(bytes),
+        _ => None,
+    }
+}
+
 /// The bytes in a step, if it has some.
 fn bytes_of(step: &mut Step) -> Option<&mut Vec<u8>> {
     match step {
         Step::Contents(_, bytes) | Step::Call(Call::Restore(Image::Bytes(bytes)), _) => Some(bytes),
         Step::Call(Call::Start(given), _) => Some(&mut given.config),
         Step::Call(Call::Switch(SwitchCall::Packet { packet, .. }), _) => Some(packet),
-        _ => None,
+        other => piece(other),
     }
 }
 
@@ -231,6 +263,8 @@ fn simpler_calls(call: &Call) -> Vec<Call> {
             damage.remove(at);
             Call::Restore(Image::Kept(*number, damage))
         })),
+        Call::Log(LogCall::Play(bytes)) => calls.extend(shorter_pieces(bytes)),
+        Call::Log(LogCall::Trial(trial)) => calls.extend(without_a_call(trial)),
         _ => {}
     }
     calls
@@ -256,8 +290,30 @@ fn numbers(call: &mut Call) -> Vec<&mut u64> {
             | SwitchCall::Packet { port: number, .. }
             | SwitchCall::Down(number),
         ) => vec![number],
-        Call::Reset | Call::Save(_) | Call::Restore(_) => Vec::new(),
+        Call::Log(LogCall::Record(recording)) => vec![
+            &mut recording.kind,
+            &mut recording.bar,
+            &mut recording.offset,
+            &mut recording.width,
+            &mut recording.value,
+        ],
+        Call::Reset | Call::Save(_) | Call::Restore(_) | Call::Log(_) => Vec::new(),
     }
+}
+
+/// Pieces of a log cut at the end, short ones first.
+fn shorter_pieces(bytes: &[u8]) -> impl Iterator<Item = Call> + '_ {
+    let piece = |length: usize| Call::Log(LogCall::Play(bytes[..length].to_vec()));
+    (0..bytes.len()).map(piece)
+}
+
+/// Recorded trials with one call left out.
+fn without_a_call(trial: &Recorded) -> impl Iterator<Item = Call> + '_ {
+    (0..trial.calls.len()).map(|at| {
+        let mut trial = trial.clone();
+        trial.calls.remove(at);
+        Call::Log(LogCall::Trial(trial))
+    })
 }
 
 /// Starts with one size made 0.

@@ -1,6 +1,7 @@
 //! How often each kind of call, refusal and answer was met.
 
 mod card;
+mod log;
 mod switch;
 
 use crate::call::Subject;
@@ -17,6 +18,8 @@ pub struct Statistics {
     /// Other things that a run should meet.
     names: &'static [&'static str],
     named: BTreeMap<&'static str, u64>,
+    /// Of logs alone.
+    sums: log::Sums,
 }
 
 /// Numbers of calls, of each kind by refusal.
@@ -36,6 +39,7 @@ impl Statistics {
         let (tables, names) = match subject {
             Subject::Card => (card::tables(), &card::NAMED[..]),
             Subject::Switch => (switch::tables(), &switch::NAMED[..]),
+            Subject::Log => (log::tables(), &log::NAMED[..]),
         };
         Statistics {
             calls: 0,
@@ -44,6 +48,15 @@ impl Statistics {
             tables,
             names,
             named: BTreeMap::new(),
+            sums: log::Sums::default(),
+        }
+    }
+
+    /// How far the run is: the number of calls, or of records played.
+    pub fn done(&self) -> u64 {
+        match self.subject {
+            Subject::Card | Subject::Switch => self.calls,
+            Subject::Log => self.sums.records,
         }
     }
 
@@ -53,6 +66,7 @@ impl Statistics {
         match self.subject {
             Subject::Card => self.count_card(made),
             Subject::Switch => self.count_switch(made),
+            Subject::Log => self.count_log(made),
         }
     }
 
@@ -76,7 +90,11 @@ impl Statistics {
     pub fn text(&self) -> String {
         let subject = self.subject.name();
         let (calls, trials) = (self.calls, self.trials);
-        let mut text = format!("{calls} {subject} calls in {trials} trials\n\n");
+        let mut text = format!("{calls} {subject} calls in {trials} trials\n");
+        if self.subject == Subject::Log {
+            text += &self.sums.text();
+        }
+        text += "\n";
         for table in &self.tables {
             text += &table.text();
         }

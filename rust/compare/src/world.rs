@@ -1,5 +1,7 @@
 //! The bytes that a call reads and changes.
 
+use crate::second::Left;
+
 /// The bytes of a card in the C interface.
 pub const CARD_BYTES: usize = 289;
 /// Where the card's bytes have the BAR sizes and the configuration.
@@ -13,17 +15,45 @@ pub const PORTS_AT: usize = 2;
 /// The most bytes that one call of a switch writes.
 pub const SWITCH_ROOM: usize = 64;
 
-/// Card, table, pending array, switch and output, as one of the models left
-/// them. A trial has a card with its buffers or a switch; what it does not have
-/// is empty.
-#[derive(Clone, Debug, Default, PartialEq, Eq)]
+/// The bytes of a player in the C interface: what it reads, how many bytes of
+/// that it has taken, those of the record, and the number of records.
+pub const PLAYER_BYTES: usize = 25;
+pub const PART_AT: usize = 2;
+pub const NUMBER_AT: usize = 17;
+/// What a player reads: mark and version, records, nothing until its record is
+/// tried again, nothing any more.
+pub const HEADER: u8 = 0;
+pub const RECORDS: u8 = 1;
+pub const AGAIN: u8 = 2;
+pub const BROKEN: u8 = 3;
+/// The bytes of the beginning of a log and of its longest record.
+pub const LOG_HEADER_BYTES: usize = 5;
+pub const RECORD_BYTES: usize = 15;
+
+/// Card, table, pending array, switch, player and output, as one of the models
+/// left them. A trial has a card with its buffers, or these and a player, or a
+/// switch; what it does not have is empty.
+#[derive(Clone, Debug, Default)]
 pub struct World {
     pub card: Vec<u8>,
     pub table: Vec<u8>,
     pub pending: Vec<u8>,
     pub switch: Vec<u8>,
+    pub player: Vec<u8>,
     pub out: Vec<u8>,
+    /// The second model's own player.
+    pub left: Left,
 }
+
+/// Worlds are compared by their bytes.
+impl PartialEq for World {
+    fn eq(&self, other: &World) -> bool {
+        let same = |part: &Part| self.part(*part) == other.part(*part);
+        PARTS.iter().all(same) && self.out == other.out
+    }
+}
+
+impl Eq for World {}
 
 /// A part that is handed on from call to call.
 #[derive(Clone, Copy, Debug, PartialEq, Eq)]
@@ -32,10 +62,17 @@ pub enum Part {
     Table,
     Pending,
     Switch,
+    Player,
 }
 
 /// All parts.
-pub const PARTS: [Part; 4] = [Part::Card, Part::Table, Part::Pending, Part::Switch];
+pub const PARTS: [Part; 5] = [
+    Part::Card,
+    Part::Table,
+    Part::Pending,
+    Part::Switch,
+    Part::Player,
+];
 
 impl Part {
     /// The name to print.
@@ -45,6 +82,7 @@ impl Part {
             Part::Table => "table",
             Part::Pending => "pending array",
             Part::Switch => "switch",
+            Part::Player => "player",
         }
     }
 
@@ -54,6 +92,7 @@ impl Part {
         match self {
             Part::Card => card_byte_name(at),
             Part::Switch => switch_byte_name(at),
+            Part::Player => player_byte_name(at),
             Part::Table | Part::Pending => String::new(),
         }
     }
@@ -67,6 +106,7 @@ impl World {
             Part::Table => &self.table,
             Part::Pending => &self.pending,
             Part::Switch => &self.switch,
+            Part::Player => &self.player,
         }
     }
 
@@ -77,6 +117,7 @@ impl World {
             Part::Table => &mut self.table,
             Part::Pending => &mut self.pending,
             Part::Switch => &mut self.switch,
+            Part::Player => &mut self.player,
         }
     }
 
@@ -110,4 +151,14 @@ fn switch_byte_name(at: usize) -> String {
         0..PORTS_AT => "requester".to_string(),
         _ => format!("wires of port {}", at - PORTS_AT),
     }
+}
+
+fn player_byte_name(at: usize) -> String {
+    let name = match at {
+        0 => "what is read",
+        1 => "bytes taken",
+        PART_AT..NUMBER_AT => "bytes of the record",
+        _ => "number of records",
+    };
+    name.to_string()
 }

@@ -1,5 +1,5 @@
-//! Short comparisons with the proved card and the proved switch, and what they
-//! meet.
+//! Short comparisons with the proved card, the proved switch and the proved
+//! player and recorder of logs, and what they meet.
 
 use compare::call::Subject;
 use compare::generate::start_steps;
@@ -34,6 +34,11 @@ fn short_comparison_of_cards() {
 #[test]
 fn short_comparison_of_switches() {
     short_comparison(Subject::Switch);
+}
+
+#[test]
+fn short_comparison_of_logs() {
+    short_comparison(Subject::Log);
 }
 
 #[test]

@@ -49,6 +49,17 @@ pub struct Event<'a> {
     pub packets: Packets<'a>,
 }
 
+/// What a call of a player gave, in the numbers of the C interface.
+pub(crate) struct Given {
+    /// 0, or the player's refusal.
+    pub stopped: u8,
+    pub taken: usize,
+    pub ended: bool,
+    pub refusal: u8,
+    pub answer: u8,
+    pub count: usize,
+}
+
 /// A card with its table, its pending array and room for what it sends.
 ///
 /// Two cards are equal if their registers, waiting bits, line and wire are.
@@ -280,6 +291,33 @@ impl Card {
         raw::restore(&mut self.state, &mut self.table, &mut self.pending, image)
     }
 
+    /// Plays a log with a player of these bytes, up to the end of the log's
+    /// first complete record.
+    pub(crate) fn play(&mut self, player: &mut [u8], log: &[u8]) -> Given {
+        let (mut taken, mut ended, mut refusal, mut answer, mut count) = (0, 0, 0, 0, 0);
+        let stopped = raw::play(
+            &mut self.state,
+            &mut self.table,
+            &mut self.pending,
+            player,
+            log,
+            &mut self.out,
+            &mut taken,
+            &mut ended,
+            &mut refusal,
+            &mut answer,
+            &mut count,
+        );
+        Given {
+            stopped,
+            taken,
+            ended: ended != 0,
+            refusal,
+            answer,
+            count,
+        }
+    }
+
     /// The number of MSI-X vectors, 0 to 2,048.
     pub fn vectors(&self) -> usize {
         self.table.len() / 16
@@ -296,7 +334,7 @@ impl Card {
     }
 
     /// The packets in the first `count` bytes of the output.
-    fn packets(&self, count: usize) -> Packets<'_> {
+    pub(crate) fn packets(&self, count: usize) -> Packets<'_> {
         Packets::new(&self.out[..count])
     }
 }

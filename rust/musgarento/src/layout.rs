@@ -11,6 +11,9 @@ pub const CARD_BYTES: usize = 289;
 /// The bytes of a switch in the C interface.
 pub const SWITCH_BYTES: usize = 10;
 
+/// The bytes of a player of a log in the C interface.
+pub const PLAYER_BYTES: usize = 25;
+
 /// Where the fields stand in a card's bytes.
 pub const EVENTS_AT: usize = 1;
 pub const REQUESTER_AT: usize = 3;
@@ -20,11 +23,23 @@ pub const COMMAND_AT: usize = 33 + 0x04;
 /// Where the ports' wires stand in a switch's bytes.
 pub const PORTS_AT: usize = 2;
 
+/// Where the fields stand in a player's bytes.
+pub const STAGE_AT: usize = 0;
+pub const TAKEN_AT: usize = 1;
+pub const PART_AT: usize = 2;
+pub const RECORDS_AT: usize = 17;
+
 /// The most bytes of packets that one call of a card makes.
 pub const PACKET_BYTES: usize = 40_976;
 
 /// The most bytes of packets that one call of a switch sends upstream.
 pub const SWITCH_PACKET_BYTES: usize = 64;
+
+/// The bytes of the beginning of a log: mark and version.
+pub const LOG_HEADER_BYTES: usize = 5;
+
+/// The bytes of the longest record of a log.
+pub const RECORD_BYTES: usize = 15;
 
 /// The length of the longest image.
 pub const IMAGE_BYTES: usize = 33_318;

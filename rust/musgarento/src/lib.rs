@@ -1,6 +1,6 @@
 //! A safe interface to the proved model of a PCIe card's interrupts: the pin
-//! (INTx), MSI and MSI-X of one endpoint function; and of a switch between such
-//! cards and the host.
+//! (INTx), MSI and MSI-X of one endpoint function; of a switch between such
+//! cards and the host; and of a player for logs of a card's calls.
 //!
 //! A [`Card`] is started from 256 configuration bytes and what else [`Start`]
 //! has, takes configuration and BAR accesses, device events and line levels,
@@ -26,10 +26,14 @@
 //! A [`Switch`] has up to eight cards at its ports, takes what they send and
 //! gives what goes upstream.
 //!
+//! A [`Recorded`] card writes a log of its calls, and a [`Player`] plays a log
+//! on a card; [`Record`] is one call in it.
+//!
 //! A call that can be refused has an error type with the refusals that it can
 //! meet, and no other: [`StartError`], [`ConfigError`], [`BarError`],
-//! [`EventError`], [`ImageError`], [`RestoreError`], [`PortError`]. Line, reset
-//! and save are never refused. Each error converts into a [`Refusal`]:
+//! [`EventError`], [`ImageError`], [`RestoreError`], [`PortError`],
+//! [`LogError`], [`RecordError`]. Line, reset and save are never refused. Each
+//! of these errors converts into a [`Refusal`]:
 //!
 //! ```
 //! use musgarento::{Card, Refusal};
@@ -45,8 +49,9 @@
 //! host that has wider ones converts them with `try_from`, since `as` would cut
 //! them, or calls the functions of [`raw`], which take 64 bits.
 //!
-//! The model itself is the static libraries `capi` and `capi_switch`, proved in
-//! Rattle; this crate only lends them buffers and names their numbers.
+//! The model itself is the static libraries `capi`, `capi_switch` and
+//! `capi_log`, proved in Rattle; this crate only lends them buffers and names
+//! their numbers.
 
 #![warn(missing_docs)]
 #![deny(unsafe_code)]
@@ -54,16 +59,26 @@
 mod card;
 mod layout;
 mod packet;
+mod player;
 pub mod raw;
+mod record;
+mod recorded;
 mod refusal;
 mod start;
 mod switch;
 
 pub use card::{Answer, Card, Event};
-pub use layout::{CARD_BYTES, IMAGE_BYTES, PACKET_BYTES, SWITCH_BYTES, SWITCH_PACKET_BYTES};
+pub use layout::{
+    CARD_BYTES, IMAGE_BYTES, LOG_HEADER_BYTES, PACKET_BYTES, PLAYER_BYTES, RECORD_BYTES,
+    SWITCH_BYTES, SWITCH_PACKET_BYTES,
+};
 pub use packet::{Packet, Packets};
+pub use player::{Call, Played, Player};
+pub use record::{Record, Records};
+pub use recorded::{BeginError, Recorded};
 pub use refusal::{
-    BarError, ConfigError, EventError, ImageError, PortError, Refusal, RestoreError, StartError,
+    BarError, ConfigError, EventError, ImageError, LogError, PortError, RecordError, Refusal,
+    RestoreError, StartError,
 };
 pub use start::Start;
 pub use switch::Switch;

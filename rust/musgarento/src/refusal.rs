@@ -14,13 +14,14 @@ macro_rules! refusals {
 
         /// All refusals, by their numbers.
         ///
-        /// The methods of [`Card`](crate::Card) and [`Switch`](crate::Switch)
-        /// have smaller error types, which name only what can occur. Each of
-        /// them converts into a `Refusal`, so that `?` brings calls of several
-        /// kinds together. The functions of [`raw`](crate::raw) return the
-        /// number alone.
+        /// The methods of [`Card`](crate::Card), [`Switch`](crate::Switch) and
+        /// [`Player`](crate::Player) have smaller error types, which name only
+        /// what can occur. Each of them converts into a `Refusal`, so that `?`
+        /// brings calls of several kinds together. The functions of
+        /// [`raw`](crate::raw) return the number alone.
         ///
-        /// A refused call changes nothing.
+        /// A refused call changes nothing; only a player keeps that it met a
+        /// wrong byte.
         #[derive(Clone, Copy, Debug, PartialEq, Eq, Hash)]
         #[non_exhaustive]
         #[repr(u8)]
@@ -60,8 +61,9 @@ refusals! {
     Mark = 20, "image under 294 bytes or wrong mark";
     Version = 21, "version not 1";
     Image = 22, "any other image that no sound card saves";
+    Log = 30, "wrong byte of mark, version, kind or line; or a player that no log leaves behind";
     PortPacket = 50, "port above 7, bytes that are no single packet, or a wire packet with a device number other than 0";
-    Lengths = 60, "card, configuration, sizes or switch of another length than 289, 256, 6 and 10, or bytes or requester that no switch has";
+    Lengths = 60, "card, configuration, sizes, switch or player of another length than 289, 256, 6, 10 and 25; bytes or requester that no switch has; first byte of a player, or flags of the card it plays on, above 3; or kind or value that no record has";
 }
 
 impl Refusal {
@@ -148,6 +150,10 @@ errors! {
     RestoreError: Mark, Version, Image, Buffers;
     /// Why a switch refused a packet, or a port's going down.
     PortError: PortPacket;
+    /// Why a log is not played any further.
+    LogError: Log;
+    /// Why a card refused the call of a log's record.
+    RecordError: Event, ConfigAccess, BarAccess, MemorySpace;
 }
 
 /// The result that the number returned by a call stands for.
@@ -169,8 +175,8 @@ pub(crate) fn never_refused(number: u8) {
     }
 }
 
-/// A card or switch of this crate is sound, its buffers fit and its output has
-/// room. The rules then give no other refusal than those in the error types.
+/// A card, switch or player of this crate is sound, its buffers fit and its
+/// output has room. The rules then give no other refusal than those in the error types.
 #[cold]
 fn unexpected(number: u8) -> ! {
     panic!("refusal {number} of a call that cannot meet it");
@@ -190,7 +196,7 @@ mod tests {
             .collect();
         assert_eq!(
             numbers,
-            [1, 2, 3, 4, 5, 6, 10, 11, 12, 13, 14, 15, 16, 17, 20, 21, 22, 50, 60]
+            [1, 2, 3, 4, 5, 6, 10, 11, 12, 13, 14, 15, 16, 17, 20, 21, 22, 30, 50, 60]
         );
     }
 
@@ -210,6 +216,8 @@ mod tests {
         assert_eq!(numbers(ImageError::number), [20, 21, 22]);
         assert_eq!(numbers(RestoreError::number), [17, 20, 21, 22]);
         assert_eq!(numbers(PortError::number), [50]);
+        assert_eq!(numbers(LogError::number), [30]);
+        assert_eq!(numbers(RecordError::number), [2, 3, 4, 5]);
     }
 
     #[test]

@@ -4,8 +4,9 @@
 //! marked `01:`. Doubts about the wording are listed in `READINGS.md`. A rule
 //! that the C interface adds is marked `C interface:`.
 //!
-//! [`switch`] is a model of request 4 of document 02, a switch between cards
-//! and host; a sentence of that document is marked `02:`.
+//! [`log`] is a model of request 1 of document 02, a player of recorded calls,
+//! and [`switch`] of request 4, a switch between cards and host; a sentence of
+//! that document is marked `02:`.
 //!
 //! Numbers that a caller hands in may be wider than their fields, and each rule
 //! is applied to the whole number.
@@ -16,6 +17,7 @@ mod calls;
 mod capability;
 mod fields;
 mod image;
+pub mod log;
 mod packets;
 mod registers;
 mod settle;

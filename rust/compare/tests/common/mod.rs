@@ -25,13 +25,18 @@ pub fn shortest(subject: Subject, model: Model<'_>) -> Vec<Step> {
     let steps = shrink(model, &failure.steps).expect("it comes again").steps;
     assert!(differs(model, &steps));
     let call = alone(model, &failure.steps).expect("the call alone");
-    assert!(call.steps.len() <= 4);
+    let (parts, most) = match subject {
+        Subject::Card => (3, 8),
+        Subject::Switch => (1, 8),
+        Subject::Log => (4, 12),
+    };
+    assert!(call.steps.len() <= parts + 1);
     for left_out in 0..steps.len() {
         let mut rest = steps.clone();
         rest.remove(left_out);
         assert!(!differs(model, &rest), "{}", trial_text(&steps));
     }
-    assert!(steps.len() <= 8, "{}", trial_text(&steps));
+    assert!(steps.len() <= most, "{}", trial_text(&steps));
     steps
 }
 
