@@ -1,2 +1,6 @@
 pub mod CrossingFor
 pub mod RecordingFor
+pub mod BytesExact
+pub mod Refused
+pub mod WideRecords
+pub mod Interface
