@@ -36,15 +36,17 @@
  *                    until the record that it holds is tried again, 3 nothing
  *                    any more
  *     byte 1         how many bytes of the header or of a record it has taken
- *     bytes 2 to 16  the bytes of that record
- *     bytes 17 to 24 the number of records that were complete, little-endian
+ *     bytes 2 to 16  the bytes of that record, the rest 0
+ *     bytes 17 to 24 the number of records whose last byte was taken,
+ *                    little-endian; past 2^64 - 1 it stays there
  *
  * Every function takes any bytes, numbers and lengths, and returns 0 or the
  * number of its refusal. A refused call changes no byte of card, table,
- * pending array, switch or output, and sets value, count and answer to 0; only
- * a card's start that is refused with 10 to 17 leaves a card of 289 zeros, and
- * a player that met a wrong byte keeps that. The output's bytes behind what is
- * sent keep their contents.
+ * pending array, switch, player or output, and sets what else it hands back to
+ * 0; only a card's start that is refused with 10 to 17 leaves a card of 289
+ * zeros, and a player at its first wrong byte tells how many bytes it took
+ * before it and becomes one that reads nothing any more. The output's bytes
+ * behind what is sent keep their contents.
  *
  * A rule is about the whole number that is handed in, and no number is cut: a
  * width of 260 is not a width of 4, and port 256 is not port 0. Only a write's
@@ -97,8 +99,9 @@ enum musgarento_refusal {
     MUSGARENTO_LENGTHS = 60,
 
     /* Of a player: */
-    /* wrong byte of mark, version, kind or line; or a player that no log
-       leaves behind */
+    /* wrong byte of mark, version, kind or line, or a player that met one; or a
+       player that no log leaves behind: it has taken more bytes than there are
+       of what it reads, or holds no record to be tried again */
     MUSGARENTO_LOG = 30,
 
     /* Of a switch; then 6: */
@@ -282,15 +285,14 @@ enum musgarento_record {
 /* Plays a log on a card: takes the bytes up to the end of the first complete
    record, and makes its call. `taken` is how many bytes were taken; those that
    were not are handed in again with what follows them. `ended` is 1 if a
-   record's call was made, else 0; `refusal`, `answer` and `count` are those of
-   that call, else 0, and its packets stand in the output.
+   record's call was made, refused or not, else 0; `refusal`, `answer` and
+   `count` are those of that call, else 0, and its packets stand in the output.
 
    A record whose call is refused is done, and the next one follows; only after
    6 the next call takes no bytes and makes the same record's call again. With
    an output of MUSGARENTO_PACKET_BYTES there is no 6. At the first wrong byte
    this returns 30; it and all bytes behind it are not taken, and every later
-   call with that player returns 30. Refusals: 60, 30. Beside 30 `ended` is 0
-   and card, table, pending array and output are as they were. */
+   call with that player returns 30. Refusals: 60, 30. */
 uint8_t musgarento_play(uint8_t *card, size_t card_len,
                         uint8_t *table, size_t table_len,
                         uint8_t *pending, size_t pending_len,

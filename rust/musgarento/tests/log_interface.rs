@@ -446,6 +446,22 @@ fn players_that_no_log_leaves_behind() {
     }
 }
 
+#[test]
+fn players_that_hold_a_line_with_another_level() {
+    for level in 0..=255 {
+        let mut host = Host::begun();
+        host.player[..4].copy_from_slice(&[2, 2, 2, level]);
+        let before = host.clone();
+        let played = host.play(&RESET);
+        if level < 2 {
+            assert_eq!(played, ended(0, 0));
+        } else {
+            assert_eq!(played, stopped(30, 0));
+            assert_eq!(host, before);
+        }
+    }
+}
+
 /// A host whose MSI-X vectors 0 and 2 wait behind Function Mask.
 fn waiting() -> Host {
     let mut host = Host::begun();
