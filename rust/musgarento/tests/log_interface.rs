@@ -454,7 +454,7 @@ fn players_that_hold_a_line_with_another_level() {
         let before = host.clone();
         let played = host.play(&RESET);
         if level < 2 {
-            assert_eq!(played, ended(0, 0));
+            assert_eq!((played.stopped, played.taken, played.ended), (0, 0, 1));
         } else {
             assert_eq!(played, stopped(30, 0));
             assert_eq!(host, before);
