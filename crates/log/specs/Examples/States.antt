@@ -8,7 +8,7 @@ use Rattle.log.specs.declared.Player.{Player}
 use Rattle.log.specs.declared.Advanced.{Advanced}
 use Rattle.log.specs.Players.{playerOf, noPart, fresh, between, broken, counted, advanced}
 use Rattle.log.specs.Plays.{playOf}
-use Rattle.log.specs.Examples.Parts.{mark, eventBytes, lineBytes, resetBytes, equal, playerFields, counting}
+use Rattle.log.specs.Examples.Parts.{mark, eventBytes, lineBytes, barBytes, resetBytes, equal, playerFields, counting}
 
 -- ---- a player: header 0, records 1, again 2 or broken 3; bytes taken; records complete; the bytes of a record, 15 at most
 
@@ -46,7 +46,8 @@ strays =
     ++ goesOn (playerOf Records 0 eventPart 7) 5 1 1 ++ goesOn (playerOf Records 1 eventPart 7) 5 1 0 ++ goesOn (playerOf Records 2 eventPart 7) 5 1 1
     ++ stops (playerOf Records 3 eventPart 7) ++ stops (playerOf Records 4 eventPart 7)
     ++ stops (playerOf Records 1 noPart 7) ++ stops (playerOf Records 1 (6 ∷ replicate 14 0) 7)
-    ++ goesOn (playerOf Again 3 eventPart 7) 5 0 1 ++ stops (playerOf Again 2 eventPart 7) ++ stops (playerOf Again 4 eventPart 7)
+    ++ goesOn (playerOf Again 1 (5 ∷ replicate 14 0) 7) 5 0 1 ++ goesOn (playerOf Again 15 barBytes 7) 5 0 1 ++ goesOn (playerOf Again 3 eventPart 7) 5 0 1
+    ++ stops (playerOf Again 2 eventPart 7) ++ stops (playerOf Again 4 eventPart 7)
     ++ stops (playerOf Again 0 eventPart 7) ++ stops (playerOf Again 0 noPart 7) ++ stops (broken (between 7))
 
 -- ---- the number of complete records: past 2^64 - 1 it stays there
