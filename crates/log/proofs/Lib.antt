@@ -1,3 +1,4 @@
+pub mod Examples
 pub mod Reading
 pub mod Cutting
 pub mod Feeding

@@ -5,3 +5,4 @@ pub mod Plays
 pub mod Cuttings
 pub mod Cards
 pub mod Recorder
+pub mod Examples
