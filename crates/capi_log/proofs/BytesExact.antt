@@ -1,16 +1,16 @@
 -- The bytes of a player are those of the player that they hold. Assumes nothing.
-use mathlib.Core.Path.{_≡_, refl, sym, ap, ap₂, _∙_}
+use mathlib.Core.Path.{_≡_, refl, sym, ap, _∙_}
 use mathlib.Core.Bool.{true}
-use mathlib.Core.List.{List, [], _∷_, _++_}
-use Prim.Native.Nat.{ℕ, _+_, _%_, _<_}
+use mathlib.Core.List.{List, _∷_, _++_}
+use Prim.Native.Nat.{ℕ, _+_, _<_}
 use native.Mathlib.Nat.{mod-eq-of-lt}
 use native.Mathlib.Omega.{arith}
 use lib.Dec.{ltb, eqb}
-use lib.ListN.{length, take, drop, length-drop}
+use lib.ListN.{length, drop, length-drop}
 use lib.Seq.{drop-cons, take-all}
 use borrow.Author.Tests.{eqb-true, ltb-true}
 use Rattle.words.specs.Lists.{count, all}
-use Rattle.words.specs.Bytes.{byte, number, part, word64, bytesOf, Bytes}
+use Rattle.words.specs.Bytes.{byte, part, word64, bytesOf, Bytes}
 use Rattle.words.proofs.BoolLaws.{both}
 use Rattle.words.proofs.ListLaws.{all-below}
 use Rattle.words.proofs.ByteLaws.{bytes-number, part-next}

@@ -1,24 +1,23 @@
 -- What a refused function of the logs' interface leaves: card, table, pending array and output as they were; 60 is for bytes that are no card's or no
 -- player's, and then the player stays too. Assumes nothing.
 use mathlib.Core.Path.{_≡_, refl, sym, ap, ap₂, _∙_}
-use mathlib.Core.Bool.{Bool, true, false, cond, _&&_, true≢false}
-use mathlib.Core.List.{List, []}
+use mathlib.Core.Bool.{true, false, _&&_, true≢false}
+use mathlib.Core.List.{List}
 use mathlib.Core.Logic.{_↔_, _⊎_, inl, inr}
-use mathlib.Core.Option.{Option, none, some}
+use mathlib.Core.Option.{Option, none}
 use Prim.Native.Nat.{ℕ}
 use native.Mathlib.Omega.{arith}
 use lib.ListN.{length}
 use Rattle.words.specs.Bytes.{Bytes}
 use Rattle.words.specs.Writers.{over}
-use Rattle.words.proofs.BoolLaws.{cond-elim, and-intro}
+use Rattle.words.proofs.BoolLaws.{cond-elim}
 use Rattle.model.specs.World.{World, worldOf}
 use Rattle.model.specs.Image.{cardIn}
-use Rattle.log.specs.declared.Player.{Player}
-use Rattle.log.specs.Players.{isPlaying, stopped}
-use Rattle.log.specs.Plays.{Performed, Played, playOf, idle}
+use Rattle.log.specs.Players.{isPlaying}
+use Rattle.log.specs.Plays.{Performed, Played, playOf}
 use Rattle.log.specs.Cards.{onCard}
 use Rattle.log.proofs.OneCall.{play-refused, stands}
-use Rattle.player.specs.Plays.{Heard, heardOf, endedBy, packets, playCall}
+use Rattle.player.specs.Plays.{heardOf, endedBy, packets, playCall}
 use Rattle.capi_log.specs.Crossing.{isCard, isPlayer, playerIn, playerBytes, Crossed, handed, endedCode, refusalIn, answerIn, cardAfter, back, played}
 use Rattle.capi_log.proofs.CrossingFor.{through}
 use Rattle.capi_log.proofs.BytesExact.{player-kept}

@@ -1,7 +1,7 @@
 -- Document 02, request [1]: every cutting of a log gives the same, whatever a record does. No card is known here. Assumes nothing.
 use mathlib.Core.Path.{_≡_, refl, sym, ap, _∙_, subst}
 use mathlib.Core.Bool.{Bool, true, false, cond, false≢true}
-use mathlib.Core.List.{List, [], _∷_, _++_, append-nil, append-assoc, foldl}
+use mathlib.Core.List.{List, [], _∷_, _++_, append-nil, append-assoc}
 use mathlib.Core.Logic.{_⊎_, inl, inr}
 use Prim.Native.Nat.{ℕ, zero, suc, _≤_}
 use native.Mathlib.Omega.{arith}
@@ -174,7 +174,9 @@ module _ {W : Type 0} (perform : List ℕ → W → Record → Performed W) (bas
       left : drop (c .taken) (take m (x .rest)) ++ drop m (x .rest) ≡ drop (c .taken) (x .rest)
       left =
           drop-more (c .taken) (take m (x .rest)) (drop m (x .rest))
-          (subst (λ (k : ℕ). k ≤ length (take m (x .rest))) (sym (ended-taken base never (x .world) (scan (x .player) (take m (x .rest))) (scan (x .player) (take m (x .rest)) .end))) (scan-taken (x .player) (take m (x .rest))))
+          (subst (λ (k : ℕ). k ≤ length (take m (x .rest)))
+          (sym (ended-taken base never (x .world) (scan (x .player) (take m (x .rest))) (scan (x .player) (take m (x .rest)) .end)))
+          (scan-taken (x .player) (take m (x .rest))))
           ∙ ap (drop (c .taken)) (take-append-drop m (x .rest))
 
   kept-piece : (x : Playing W) (piece : Piece) → length (piece .out) ≡ n → Live base never (x .player) → Kept x (pieced perform x piece)
@@ -185,7 +187,9 @@ module _ {W : Type 0} (perform : List ℕ → W → Record → Performed W) (bas
       (record { live = inr b; whole = ap (λ (l : List (Performed W)). preceded l (wholeOf base (x .player) (x .world) (x .rest))) (append-nil (x .results)) })
     where
       still : playOf base (x .player) (x .world) (take (piece .size) (x .rest)) ≡ idle base (stopped (x .player)) (x .world)
-      still = subst (λ (p : Player). playOf base p (x .world) (take (piece .size) (x .rest)) ≡ idle base (stopped p) (x .world)) (sym b) (broken-call base never (x .player) (x .world) (take (piece .size) (x .rest)))
+      still =
+          subst (λ (p : Player). playOf base p (x .world) (take (piece .size) (x .rest)) ≡ idle base (stopped p) (x .world)) (sym b)
+          (broken-call base never (x .player) (x .world) (take (piece .size) (x .rest)))
 
   kept-all : (x : Playing W) (pieces : List Piece) → Lent n pieces → Live base never (x .player) → Kept x (piecedAll perform x pieces)
   unfolding piecedAll

@@ -1,6 +1,5 @@
 -- One law for each kind of record, and for each way out of the recorder's functions. Assumes nothing.
-use mathlib.Core.Path.{_≡_, refl, sym, ap, _∙_}
-use mathlib.Core.Bool.{true, false}
+use mathlib.Core.Path.{_≡_}
 use mathlib.Core.List.{List, [], _∷_}
 use Prim.Native.Nat.{ℕ, _≤_, _<_}
 use native.Mathlib.Omega.{arith}
@@ -9,7 +8,7 @@ use lib.ListN.{length}
 use borrow.Author.Tests.{ne-eqb, eq-eqb, lt-ltb, le-ltb}
 use Rattle.words.specs.Lists.{firstOf}
 use Rattle.words.specs.Bytes.{byte, word16, word32, word64}
-use Rattle.words.specs.Writers.{over, Wrote}
+use Rattle.words.specs.Writers.{Wrote}
 use Rattle.model.specs.declared.Answer.{Answer}
 use Rattle.model.specs.declared.Answer.the-variants.{Refused, Done, Value, Sent, Held, Merged, Lost}
 use Rattle.model.proofs.Answer.{the-type}
@@ -18,9 +17,8 @@ use denote.Enum.Declared.{tagOf}
 use Rattle.model.specs.Answers.{refusalOf}
 use Rattle.log.specs.declared.Record.{Record}
 use Rattle.log.specs.declared.Record.the-variants.{Event, Line, ConfigWrite, BarWrite, Reset}
-use Rattle.log.specs.declared.recorder.Logged.{Logged}
 use Rattle.log.specs.Logs.{sizeOf, recordIn, bytesIn}
-use Rattle.log.specs.Recorder.{isKept, logged, Appended, appended, appendedTo}
+use Rattle.log.specs.Recorder.{isKept, logged, appended}
 
 -- what is no kind
 pub no-kind : (k : ℕ) → (k ≡ 1 → ⊥) → (k ≡ 2 → ⊥) → (k ≡ 3 → ⊥) → (k ≡ 4 → ⊥) → (k ≡ 5 → ⊥) → 0 ≡ sizeOf k

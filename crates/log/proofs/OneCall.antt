@@ -1,6 +1,6 @@
 -- Document 02, request [1]: one call of a player, whatever a record does. Assumes nothing.
 use mathlib.Core.Path.{_≡_, refl, sym, ap, _∙_, subst}
-use mathlib.Core.Bool.{Bool, true, false, cond, not, _&&_, _||_, true≢false, false≢true}
+use mathlib.Core.Bool.{Bool, true, false, cond, not, _||_, false≢true}
 use mathlib.Core.List.{List, [], _∷_}
 use mathlib.Core.Logic.{_⊎_, inl, inr}
 use mathlib.Core.Option.{Option, none, some, Option·map}
@@ -11,7 +11,7 @@ use lib.ListN.{length, set}
 use borrow.Author.Tests.{eq-eqb, eqb-true}
 use Rattle.words.specs.Lists.{firstOf}
 use Rattle.words.specs.Bytes.{byte}
-use Rattle.words.proofs.BoolLaws.{by-test, cond-elim, both, and-intro}
+use Rattle.words.proofs.BoolLaws.{by-test, cond-elim, both}
 use Rattle.model.specs.declared.Answer.{Answer}
 use Rattle.model.specs.Answers.{refusalOf}
 use Rattle.log.specs.declared.Record.{Record}
@@ -23,7 +23,8 @@ use Rattle.log.specs.declared.End.the-variants.{More, Whole, Wrong}
 use Rattle.log.specs.declared.Scanned.{Scanned}
 use Rattle.log.specs.declared.Advanced.{Advanced}
 use Rattle.log.specs.Logs.{recordIn, sizeOf}
-use Rattle.log.specs.Players.{further, scan, fits, fitsLater, fitsRecord, with, complete, counted, between, playerOf, advancedOf, stopped, scanned, resumed, advanced, dueRecord, playedRecord, isPlaying}
+use Rattle.log.specs.Players.{between, playerOf, isPlaying, fits, fitsLater, fitsRecord, with, complete, further, scan, counted}
+use Rattle.log.specs.Players.{advancedOf, stopped, scanned, resumed, advanced, dueRecord, playedRecord}
 use Rattle.log.specs.Plays.{Performed, Played, worldBy, onward, tried, idle, made, playOf}
 use Rattle.log.proofs.Reading.{scan-taken}
 use Rattle.log.proofs.ScanLaws.{later-fits, kind-stays}

@@ -10,12 +10,11 @@ use Rattle.model.specs.Answers.{isAccepted}
 use Rattle.model.specs.World.{World}
 use Rattle.model.specs.Vectors.{waits}
 use Rattle.model.specs.Start.{Given}
-use Rattle.model.specs.Calls.{Call, startGiven, start, operate, step}
+use Rattle.model.specs.Calls.{startGiven, start, operate}
 use Rattle.model.specs.History.{Past, Run, called, run, WaitsBy}
 use Rattle.model.proofs.WaitingHistory.{waiting-history}
 use Rattle.log.specs.declared.Record.{Record}
 use Rattle.log.specs.declared.Player.{Player}
-use Rattle.log.specs.Logs.{callOf}
 use Rattle.log.specs.Players.{playedRecord}
 use Rattle.log.specs.Plays.{Performed, worldBy}
 use Rattle.log.specs.Cards.{onCard, Action, direct, play, Host, told, acted, actedAll, hostOf, callsOf, callsBy, callsMade}

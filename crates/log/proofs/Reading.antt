@@ -1,6 +1,6 @@
 -- Players that read on, and how many bytes a call takes. Assumes nothing.
 use mathlib.Core.Path.{_≡_, refl, sym, _∙_, subst}
-use mathlib.Core.Bool.{Bool, true, false, cond, false≢true, _||_}
+use mathlib.Core.Bool.{Bool, true, false, cond, false≢true}
 use mathlib.Core.List.{List, [], _∷_}
 use Prim.Native.Nat.{ℕ, suc, _≤_, _<_}
 use native.Mathlib.Omega.{arith}
@@ -14,8 +14,8 @@ use Rattle.words.proofs.BoolLaws.{by-test, cond-elim, second-false}
 use Rattle.log.specs.declared.Player.{Player}
 use Rattle.log.specs.declared.Stage.{Stage}
 use Rattle.log.specs.declared.Stage.the-variants.{Header, Records, Again, Broken}
-use Rattle.log.specs.Logs.{header, sizeOf}
-use Rattle.log.specs.declared.End.the-variants.{More, Whole, Wrong}
+use Rattle.log.specs.Logs.{sizeOf}
+use Rattle.log.specs.declared.End.the-variants.{Whole, Wrong}
 use Rattle.log.specs.declared.Scanned.{Scanned}
 use Rattle.log.specs.Players.{further, scan, fits, fitsLater, fitsRecord, with, complete, broken, playerOf, isPlaying}
 

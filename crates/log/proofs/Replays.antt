@@ -1,9 +1,9 @@
 -- The recorder of request [1]: a recorded trial, played again, gives the same. Assumes nothing.
 use mathlib.Core.Path.{_≡_, refl, sym, ap, _∙_}
-use mathlib.Core.Bool.{Bool, true, false, cond, not}
-use mathlib.Core.List.{List, [], _∷_, _++_}
-use mathlib.Core.Option.{Option, none, some}
-use Prim.Native.Nat.{ℕ, _≤_, _<_}
+use mathlib.Core.Bool.{true, false}
+use mathlib.Core.List.{List, [], _∷_}
+use mathlib.Core.Option.{none, some}
+use Prim.Native.Nat.{ℕ, _≤_}
 use native.Mathlib.Omega.{arith}
 use lib.Dec.{eqb}
 use lib.ListN.{length, drop}
@@ -11,7 +11,6 @@ use lib.Seq.{take-append-seam}
 use borrow.Author.Tests.{eqb-true, eqb-false, ltb-true, ltb-false, not-false, not-true}
 use lib.Dec.{ltb}
 use Rattle.words.proofs.BoolLaws.{by-test}
-use Rattle.model.specs.declared.Answer.{Answer}
 use Rattle.model.specs.declared.Answer.the-variants.{Refused}
 use Rattle.model.specs.Answers.{refusalOf}
 use Rattle.model.specs.World.{World}
@@ -21,13 +20,12 @@ use Rattle.model.proofs.Calls.AnswerLaws.{not-accepted}
 use Rattle.model.proofs.Calls.CallLaws.{step-elim}
 use Rattle.log.specs.declared.Record.{Record}
 use Rattle.log.specs.declared.Record.the-variants.{Event, Line, ConfigWrite, BarWrite, Reset}
-use Rattle.log.specs.Logs.{Fits, FitsIn, AllFit, no-more, one-more, header, callOf, recordOf, bytesIn}
+use Rattle.log.specs.Logs.{Fits, FitsIn, AllFit, no-more, one-more, callOf, recordOf, bytesIn}
 use Rattle.log.specs.Players.{fresh, between, counted}
-use Rattle.log.specs.Plays.{Performed}
 use Rattle.log.specs.Cuttings.{Trial, preceded, wholeOf}
 use Rattle.log.specs.Cards.{shown, onCard, spare}
 use Rattle.log.specs.Recorder.{isKept, logged, loggedCall, loggedAll, logOf, isRecorded, given, numbered, left}
-use Rattle.log.proofs.Room.{card-yes, card-no, roomy, refused-so, same-earlier, same-next, same-answer, same-sends, lent, spare-length}
+use Rattle.log.proofs.Room.{card-yes, card-no, roomy, refused-so, same-earlier, same-next, same-answer, same-sends, spare-length}
 use Rattle.log.proofs.Feeding.{feed, after-header}
 
 -- ---- a call that was not refused with 6 gives the same with 40,976 bytes of output

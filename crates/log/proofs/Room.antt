@@ -1,7 +1,7 @@
 -- A record over an output of 40,976 bytes: it is never refused with 6, and the output's contents do not matter. Assumes nothing.
 use mathlib.Core.Path.{_≡_, refl, sym, ap, _∙_, subst}
-use mathlib.Core.Bool.{Bool, true, false, not}
-use mathlib.Core.List.{List, [], _∷_, _++_}
+use mathlib.Core.Bool.{true, false, not}
+use mathlib.Core.List.{List, []}
 use Prim.Native.Nat.{ℕ, _≤_, _<_}
 use native.Mathlib.Omega.{arith}
 use lib.Dec.{eqb}
@@ -14,7 +14,6 @@ use Rattle.model.specs.declared.Answer.the-variants.{Refused}
 use Rattle.model.specs.Answers.{refusalOf}
 use Rattle.model.specs.World.{World}
 use Rattle.model.specs.Sound.{sound}
-use Rattle.model.specs.Trials.{wroteBytes}
 use Rattle.model.specs.Calls.{Call, Outcome, step, rows, next, changed, sends, answerOf, outputOf, isSave, earlierRefusal, accepted, refused}
 use Rattle.model.proofs.Calls.CallLaws.{step-unsound, step-sound, performed-row, performed-accepted}
 use Rattle.model.proofs.Refusals.{room-exact}

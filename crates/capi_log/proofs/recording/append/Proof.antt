@@ -1,6 +1,5 @@
 use mathlib.Core.Path.{_∙_, ap}
 use borrow.Author.Needs.{needs}
-use Rattle.log.specs.Recorder.{Appended}
 use Rattle.capi_log.specs.Recording.{wrote, wroteBy, wroteRecord}
 use Rattle.capi_log.proofs.recording.append.Statement.{statement}
 use Rattle.capi_log.proofs.recording.append.Tie as tie

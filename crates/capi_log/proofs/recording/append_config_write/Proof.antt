@@ -1,4 +1,3 @@
-use mathlib.Core.Path.{_∙_, sym}
 use borrow.Author.Needs.{needs}
 use Rattle.log.specs.declared.Record.the-variants.{ConfigWrite}
 use Rattle.capi_log.proofs.RecordingFor.{too-wide, not-wide, none-wrote, some-wrote}

@@ -1,6 +1,5 @@
-use mathlib.Core.Path.{_∙_, sym, ap}
+use mathlib.Core.Path.{_∙_, ap}
 use borrow.Author.Needs.{needs}
-use Rattle.log.specs.Recorder.{Appended}
 use Rattle.capi_log.specs.Recording.{wrote, wroteBy}
 use Rattle.capi_log.proofs.recording.musgarento_log_begin.Statement.{statement}
 use Rattle.capi_log.proofs.recording.musgarento_log_begin.Tie as tie

@@ -1,5 +1,4 @@
 use borrow.Author.Needs.{needs}
-use mathlib.Core.Path.{_∙_}
 use Rattle.log.specs.Players.{scanned}
 use Rattle.log.proofs.advance.after_scan.Statement.{statement}
 use Rattle.log.proofs.advance.after_scan.Tie as tie

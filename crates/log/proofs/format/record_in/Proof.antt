@@ -1,4 +1,3 @@
-use denote.Ref.{now}
 use borrow.Author.Needs.{needs}
 use Rattle.log.proofs.FormatLaws.{is-event, is-line, is-config, is-bar, is-reset}
 use Rattle.log.proofs.format.record_in.Statement.{statement}

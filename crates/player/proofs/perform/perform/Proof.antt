@@ -1,10 +1,5 @@
 -- Each arm is the call of its kind. Assumes nothing.
-use mathlib.Core.Path.{sym, ap, _∙_}
-use denote.Ref.{now}
 use borrow.Author.Needs.{needs}
-use Rattle.model.specs.World.{worldOf}
-use Rattle.model.specs.Calls.{step}
-use Rattle.log.specs.declared.Record.{Record}
 use Rattle.log.specs.Logs.{callOf}
 use Rattle.player.proofs.perform.perform.Statement.{statement}
 use Rattle.player.proofs.perform.perform.Tie as tie
