@@ -1,10 +1,13 @@
 -- The worked examples of request [1], computed: for each of its numbers a case in which it shows. docs/NUMBERS.md has the list. Assumes nothing.
 use mathlib.Core.Bool.{Bool, true}
+use native.Mathlib.Omega.{arith}
 use lib.Dec.{T}
 use Rattle.words.specs.Bytes as Bytes
 use Rattle.model.specs.Examples.Parts.{agree}
 use Rattle.model.specs.History as History
 use Rattle.model.proofs.Definitions.{definitions}
+use Rattle.log.specs.declared.Record.the-variants.{Event, ConfigWrite, BarWrite}
+use Rattle.log.specs.Logs.{Fits}
 use Rattle.log.specs.Logs as Logs
 use Rattle.log.specs.Players as Players
 use Rattle.log.specs.Plays as Plays
@@ -34,6 +37,10 @@ logDefinitions = true
 pub formats : T (agree Formats.formats)
 unfolding definitions logDefinitions
 formats = tt
+
+-- the largest numbers that the bytes of a record can hold fit them
+pub largest : Fits (Event 0xffff) × Fits (ConfigWrite 0xffff 0xff 0xffffffff) × Fits (BarWrite 0xff 0xffffffff 0xff 0xffffffffffffffff)
+largest = (omega (arith), (omega (arith), omega (arith), omega (arith)), (omega (arith), omega (arith), omega (arith), omega (arith)))
 
 -- states of a player, and the number of its records
 pub states : T (agree States.states)
