@@ -39,7 +39,7 @@ stops p =
     let a : Advanced = advanced p resetBytes in
     (0, a .taken) ∷ (30, a .refusal) ∷ (0, ofBool (a .due)) ∷ equal (playerFields p) (playerFields (a .player)) ∷ []
 
--- five bytes of a header, all bytes of a record, no kind; to be tried again with other than all bytes of a record
+-- five bytes of a header, all bytes of a record, no kind; to be tried again with other than all bytes of a record, or with a level that is none
 abbrev pub strays : List (ℕ × ℕ)
 strays =
     goesOn (playerOf Header 4 noPart 7) 0 1 0 ++ stops (playerOf Header 5 noPart 7) ++ stops (playerOf Header 6 noPart 7)
@@ -49,6 +49,9 @@ strays =
     ++ goesOn (playerOf Again 1 (5 ∷ replicate 14 0) 7) 5 0 1 ++ goesOn (playerOf Again 15 barBytes 7) 5 0 1 ++ goesOn (playerOf Again 3 eventPart 7) 5 0 1
     ++ stops (playerOf Again 2 eventPart 7) ++ stops (playerOf Again 4 eventPart 7)
     ++ stops (playerOf Again 0 eventPart 7) ++ stops (playerOf Again 0 noPart 7) ++ stops (broken (between 7))
+    ++ goesOn (playerOf Again 2 (2 ∷ 0 ∷ 2 ∷ replicate 12 0) 7) 5 0 1 ++ goesOn (playerOf Again 2 (2 ∷ 1 ∷ 2 ∷ replicate 12 0) 7) 5 0 1
+    ++ stops (playerOf Again 2 (2 ∷ 2 ∷ replicate 13 0) 7) ++ stops (playerOf Again 2 (2 ∷ 0xff ∷ replicate 13 0) 7)
+    ++ goesOn (playerOf Again 3 (1 ∷ 2 ∷ 2 ∷ replicate 12 0) 7) 5 0 1
 
 -- ---- the number of complete records: past 2^64 - 1 it stays there
 
