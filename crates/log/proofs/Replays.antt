@@ -25,7 +25,7 @@ use Rattle.log.specs.Players.{fresh, between, counted}
 use Rattle.log.specs.Cuttings.{Trial, preceded, wholeOf}
 use Rattle.log.specs.Cards.{shown, onCard, spare}
 use Rattle.log.specs.Recorder.{isKept, logged, loggedCall, loggedAll, logOf, isRecorded, given, numbered, left}
-use Rattle.log.proofs.Room.{card-yes, card-no, roomy, refused-so, same-earlier, same-next, same-answer, same-sends, spare-length}
+use Rattle.log.proofs.Room.{card-yes, card-no, roomy, refused-so, lends, spare-length}
 use Rattle.log.proofs.Feeding.{feed, after-header}
 
 -- ---- a call that was not refused with 6 gives the same with 40,976 bytes of output
@@ -45,14 +45,14 @@ module _ (w : World) (r : Record) (out : List ℕ) (kept : isKept (step w (callO
 
   was-refused : eqb (earlierRefusal w c) 0 ≡ false → onCard spare w r ≡ shown (step w c)
   was-refused e =
-      card-no w r spare spare-length (ap (λ (n : ℕ). eqb n 0) (same-earlier w spare out r) ∙ e)
-      ∙ ap (λ (n : ℕ). record { world = w; answer = Refused n; bytes = [] }) (same-earlier w spare out r)
+      card-no w r spare spare-length (ap (λ (n : ℕ). eqb n 0) (lends w spare out r .earlier) ∙ e)
+      ∙ ap (λ (n : ℕ). record { world = w; answer = Refused n; bytes = [] }) (lends w spare out r .earlier)
       ∙ ap shown (sym (refused-so w c e))
 
   was-accepted : earlierRefusal w c ≡ 0 → onCard spare w r ≡ shown (step w c)
   was-accepted q =
-      card-yes w r spare spare-length (same-earlier w spare out r ∙ q)
-      ∙ (λ i. record { world = same-next w spare out r i; answer = same-answer w spare out r i; bytes = same-sends w spare out r i })
+      card-yes w r spare spare-length (lends w spare out r .earlier ∙ q)
+      ∙ (λ i. record { world = lends w spare out r .next i; answer = lends w spare out r .answer i; bytes = lends w spare out r .sends i })
       ∙ ap (λ (b : List ℕ). record { world = next w c; answer = answerOf (w .endpoint) c; bytes = b })
       (sym (take-append-seam (sends w c) (drop (length (sends w c)) (outputOf c))))
       ∙ ap shown (sym (roomy w c q (room q)))

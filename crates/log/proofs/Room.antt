@@ -24,56 +24,23 @@ use Rattle.log.specs.Logs.{callOf}
 use Rattle.log.specs.Plays.{Performed}
 use Rattle.log.specs.Cards.{shown, onCard, spare}
 
--- ---- what does not depend on the output
+-- ---- what a record's call is: not a save, over the output lent to it, and all else does not depend on that output
 
-module _ (w : World) (out out′ : List ℕ) where
-  pub same-earlier : (r : Record) → earlierRefusal w (callOf r out) ≡ earlierRefusal w (callOf r out′)
-  unfolding callOf earlierRefusal rows
-  same-earlier (Event e) = refl
-  same-earlier (Line level) = refl
-  same-earlier (ConfigWrite o n x) = refl
-  same-earlier (BarWrite b o n x) = refl
-  same-earlier Reset = refl
+pub record Lends (w : World) (out out′ : List ℕ) (r : Record) : Type 0 where
+  pub lent : outputOf (callOf r out) ≡ out
+  pub noSave : isSave (callOf r out) ≡ false
+  pub earlier : earlierRefusal w (callOf r out) ≡ earlierRefusal w (callOf r out′)
+  pub next : next w (callOf r out) ≡ next w (callOf r out′)
+  pub sends : sends w (callOf r out) ≡ sends w (callOf r out′)
+  pub answer : answerOf (w .endpoint) (callOf r out) ≡ answerOf (w .endpoint) (callOf r out′)
 
-  pub same-next : (r : Record) → next w (callOf r out) ≡ next w (callOf r out′)
-  unfolding callOf next changed
-  same-next (Event e) = refl
-  same-next (Line level) = refl
-  same-next (ConfigWrite o n x) = refl
-  same-next (BarWrite b o n x) = refl
-  same-next Reset = refl
-
-  pub same-sends : (r : Record) → sends w (callOf r out) ≡ sends w (callOf r out′)
-  unfolding callOf sends changed
-  same-sends (Event e) = refl
-  same-sends (Line level) = refl
-  same-sends (ConfigWrite o n x) = refl
-  same-sends (BarWrite b o n x) = refl
-  same-sends Reset = refl
-
-  pub same-answer : (r : Record) → answerOf (w .endpoint) (callOf r out) ≡ answerOf (w .endpoint) (callOf r out′)
-  unfolding callOf answerOf
-  same-answer (Event e) = refl
-  same-answer (Line level) = refl
-  same-answer (ConfigWrite o n x) = refl
-  same-answer (BarWrite b o n x) = refl
-  same-answer Reset = refl
-
-pub lent : (r : Record) (out : List ℕ) → outputOf (callOf r out) ≡ out
-unfolding callOf
-lent (Event e) out = refl
-lent (Line level) out = refl
-lent (ConfigWrite o n x) out = refl
-lent (BarWrite b o n x) out = refl
-lent Reset out = refl
-
-no-save : (r : Record) (out : List ℕ) → isSave (callOf r out) ≡ false
-unfolding callOf isSave
-no-save (Event e) out = refl
-no-save (Line level) out = refl
-no-save (ConfigWrite o n x) out = refl
-no-save (BarWrite b o n x) out = refl
-no-save Reset out = refl
+pub lends : (w : World) (out out′ : List ℕ) (r : Record) → Lends w out out′ r
+unfolding callOf isSave earlierRefusal rows next changed sends answerOf
+lends w out out′ (Event e) = record { lent = refl; noSave = refl; earlier = refl; next = refl; sends = refl; answer = refl }
+lends w out out′ (Line level) = record { lent = refl; noSave = refl; earlier = refl; next = refl; sends = refl; answer = refl }
+lends w out out′ (ConfigWrite o n x) = record { lent = refl; noSave = refl; earlier = refl; next = refl; sends = refl; answer = refl }
+lends w out out′ (BarWrite b o n x) = record { lent = refl; noSave = refl; earlier = refl; next = refl; sends = refl; answer = refl }
+lends w out out′ Reset = record { lent = refl; noSave = refl; earlier = refl; next = refl; sends = refl; answer = refl }
 
 -- ---- the two ways out of a call with room
 
@@ -102,14 +69,14 @@ refused-so w c e = by-test (sound w) isSound unsound
 -- no record makes more than 40,976 bytes
 fits-all : (w : World) (r : Record) (out : List ℕ) → earlierRefusal w (callOf r out) ≡ 0 → length (sends w (callOf r out)) ≤ 40976
 fits-all w r out e =
-    subst (λ (l : List ℕ). length l ≤ 40976) (same-sends w big out r)
-    (subst (λ (o : Outcome). o .count ≤ 40976) (roomy w (callOf r big) (same-earlier w big out r ∙ e) large) (bytes-bound w (callOf r big) (no-save r big)))
+    subst (λ (l : List ℕ). length l ≤ 40976) (lends w big out r .sends)
+    (subst (λ (o : Outcome). o .count ≤ 40976) (roomy w (callOf r big) (lends w big out r .earlier ∙ e) large) (bytes-bound w (callOf r big) (lends w big out r .noSave)))
   where
     big : List ℕ
     big = replicate (length (sends w (callOf r out))) 0
 
     large : length (sends w (callOf r big)) ≤ length (outputOf (callOf r big))
-    large = rw (lent r big, length-replicate {A = ℕ} (length (sends w (callOf r out))) 0, same-sends w big out r) (omega arith)
+    large = rw (lends w big out r .lent, length-replicate {A = ℕ} (length (sends w (callOf r out))) 0, lends w big out r .sends) (omega arith)
 
 -- a record over an output of 40,976 bytes
 module _ (w : World) (r : Record) (out : List ℕ) (l : length out ≡ 40976) where
@@ -119,7 +86,7 @@ module _ (w : World) (r : Record) (out : List ℕ) (l : length out ≡ 40976) wh
   pub card-yes : earlierRefusal w (callOf r out) ≡ 0 → onCard out w r ≡ accepts
   unfolding onCard
   card-yes e =
-      ap shown (roomy w (callOf r out) e (rw (lent r out, l) (fits-all w r out e)))
+      ap shown (roomy w (callOf r out) e (rw (lends w out out r .lent, l) (fits-all w r out e)))
       ∙ ap (λ (b : List ℕ). record { world = next w (callOf r out); answer = answerOf (w .endpoint) (callOf r out); bytes = b })
       (take-append-seam (sends w (callOf r out)) (drop (length (sends w (callOf r out))) (outputOf (callOf r out))))
 
@@ -135,14 +102,14 @@ card-same out out′ l l′ w r = by-test (eqb (earlierRefusal w (callOf r out))
     yes z =
         let e : earlierRefusal w (callOf r out) ≡ 0 = eqb-true (earlierRefusal w (callOf r out)) 0 z in
         card-yes w r out l e
-        ∙ (λ i. record { world = same-next w out out′ r i; answer = same-answer w out out′ r i; bytes = same-sends w out out′ r i })
-        ∙ sym (card-yes w r out′ l′ (same-earlier w out′ out r ∙ e))
+        ∙ (λ i. record { world = lends w out out′ r .next i; answer = lends w out out′ r .answer i; bytes = lends w out out′ r .sends i })
+        ∙ sym (card-yes w r out′ l′ (lends w out′ out r .earlier ∙ e))
 
     no : eqb (earlierRefusal w (callOf r out)) 0 ≡ false → onCard out w r ≡ onCard out′ w r
     no z =
         card-no w r out l z
-        ∙ ap (λ (n : ℕ). record { world = w; answer = Refused n; bytes = [] }) (same-earlier w out out′ r)
-        ∙ sym (card-no w r out′ l′ (ap (λ (n : ℕ). eqb n 0) (same-earlier w out′ out r) ∙ z))
+        ∙ ap (λ (n : ℕ). record { world = w; answer = Refused n; bytes = [] }) (lends w out out′ r .earlier)
+        ∙ sym (card-no w r out′ l′ (ap (λ (n : ℕ). eqb n 0) (lends w out′ out r .earlier) ∙ z))
 
 -- 6 is no answer
 pub card-never : (out : List ℕ) → length out ≡ 40976 → (w : World) (r : Record) → eqb (refusalOf (onCard out w r .answer)) 6 ≡ false
@@ -151,7 +118,7 @@ card-never out l w r = ne-eqb (refusalOf (step w (callOf r out) .answer)) 6 (λ 
   where
     fit : (earlierRefusal w (callOf r out) ≡ 0) × (length (outputOf (callOf r out)) < length (sends w (callOf r out))) → ⊥
     fit p =
-        let shorter : 40976 < length (sends w (callOf r out)) = subst (λ (n : ℕ). n < length (sends w (callOf r out))) (ap length (lent r out) ∙ l) (p .1) in
+        let shorter : 40976 < length (sends w (callOf r out)) = subst (λ (n : ℕ). n < length (sends w (callOf r out))) (ap length (lends w out out r .lent) ∙ l) (p .1) in
         absurd (omega (arith, shorter, fits-all w r out (p .0)))
 
 pub spare-length : length spare ≡ 40976

@@ -17,7 +17,7 @@ use Rattle.log.specs.Logs.{recordIn, callOf}
 use Rattle.log.specs.Players.{advanced}
 use Rattle.log.specs.Plays.{Performed, Played, onward, tried, idle, made, playOf}
 use Rattle.log.specs.Cards.{onCard}
-use Rattle.log.proofs.Room.{lent}
+use Rattle.log.proofs.Room.{lends}
 use Rattle.player.specs.declared.play.Ended.the-variants.{Nothing, With}
 use Rattle.player.specs.Plays.{Heard, heardOf, playCall}
 
@@ -88,7 +88,7 @@ module _ (p : Player) (w : World) (l out : List ℕ) where
         refusal = 0;
         ended = With (step w c .answer);
         count = writes .count i;
-        output = (writes .output ∙ ap (over (wroteBytes (step w c))) (lent (recordIn (a .player .part)) out)) i;
+        output = (writes .output ∙ ap (over (wroteBytes (step w c))) (lends w out out (recordIn (a .player .part)) .lent)) i;
       })
       ∙ ap (λ (r : Played World). heardOf r out) (sym (made-due (onCard out) a w d))
       ∙ by-advance a e
