@@ -383,9 +383,14 @@ fn record_length(kind: u8) -> usize {
 }
 
 /// A player that no log leaves behind: it has taken as many bytes as it cannot
-/// have taken.
+/// have taken, or holds a line with another level than 0 and 1.
 fn no_player(random: &mut Random) -> Vec<u8> {
     let mut bytes = random.bytes(PLAYER_BYTES);
+    if random.below(8) == 0 {
+        bytes[..3].copy_from_slice(&[2, 2, 2]);
+        bytes[3] = bytes[3].max(2);
+        return bytes;
+    }
     let kind = random.below(7) as u8;
     let length = record_length(kind);
     let any = random.below(256);
