@@ -10,3 +10,4 @@ pub mod PlayerCalls
 pub mod ScanLaws
 pub mod FormatLaws
 pub mod PlayerLaws
+pub mod Taking
