@@ -4,3 +4,4 @@ pub mod BytesExact
 pub mod Refused
 pub mod WideRecords
 pub mod Interface
+pub mod BetweenFor

@@ -4,7 +4,7 @@ use mathlib.Core.List.{List, _∷_, _++_}
 use Prim.Native.Nat.{ℕ, _%_}
 use lib.Dec.{ltb, eqb}
 use lib.ListN.{length}
-use Rattle.words.specs.Bytes.{byte, part, word64, bytesOf}
+use Rattle.words.specs.Bytes.{byte, part, word16, word64, bytesOf}
 use Rattle.model.specs.Answers.{refusalOf, eventCode}
 use Rattle.model.specs.World.{World, worldOf}
 use Rattle.model.specs.Image.{cardIn}
@@ -43,6 +43,10 @@ isCard bytes = eqb (length bytes) 289 && ltb (byte bytes 0) 4
 -- 25 bytes, and one of four stages
 unfoldable pub isPlayer : List ℕ → Bool
 isPlayer bytes = eqb (length bytes) 25 && ltb (byte bytes 0) 4
+
+-- stage 1, no byte taken and 15 bytes 0: a player between two records, whatever its number
+unfoldable pub isBetween : List ℕ → Bool
+isBetween bytes = eqb (word16 bytes 0) 1 && eqb (word64 bytes 2) 0 && eqb (word64 bytes 9) 0
 
 -- ---- what crosses
 

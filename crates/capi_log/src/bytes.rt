@@ -3,8 +3,9 @@ ghost use mathlib.Core.Path.{_≡_};
 ghost use lib.ListN.{length};
 ghost use Rattle.words.specs.Bytes.{part};
 ghost use Rattle.model.specs.declared.Answer.the-variants.{Refused};
+ghost use Rattle.log.specs.Players.{between};
 ghost use Rattle.log.specs.Plays.{onward};
-ghost use Rattle.capi_log.specs.Crossing.{stageOf, stageByte, playerIn, playerBytes, isCard, isPlayer};
+ghost use Rattle.capi_log.specs.Crossing.{stageOf, stageByte, playerIn, playerBytes, isCard, isPlayer, isBetween};
 use log::Player;
 use log::Stage;
 
@@ -94,19 +95,41 @@ pub fn put_player(out: &mut [u8], player: Player)
     words::put::put_le(&mut out[b..], 8, player.number);
 }
 
+// Whether these are the bytes of a player between two records, whatever its number.
+fn is_between(bytes: &[u8]) -> bool
+    requires { ⌜ length (now bytes) ≡ 25 ⌝ }
+    ensures { λ r. ⌜ r ≡ isBetween (now (bytes .entry)) ⌝ }
+{
+    (words::get::word16(bytes, 0) == 1)
+        & (words::get::word64(bytes, 2) == 0)
+        & (words::get::word64(bytes, 9) == 0)
+}
+
+// Writes a player between two records; of one that was there before, its number alone.
+fn put_between(out: &mut [u8], number: u64)
+    requires { ⌜ length (now out) ≡ 25 ⌝ }
+    ensures { λ r. ⌜ now (out .exit) ≡ playerBytes (between number) ⌝ }
+{
+    if is_between(out) {
+        words::put::put_le(&mut out[17..], 8, number);
+        return;
+    }
+    let next = Player {
+        stage: Stage::Records,
+        taken: 0,
+        part: [0; 15],
+        number,
+    };
+    put_player(out, next);
+}
+
 // Writes the player that holds a record whose call was answered with a refusal, or 0: after 6 it is to be tried again, else the next record follows.
 pub fn put_onward(out: &mut [u8], player: Player, refusal: u8)
     requires { ⌜ length (now out) ≡ 25 ⌝ }
     ensures { λ r. ⌜ now (out .exit) ≡ playerBytes (onward player (Refused refusal)) ⌝ }
 {
     if refusal != 6 {
-        let next = Player {
-            stage: Stage::Records,
-            taken: 0,
-            part: [0; 15],
-            number: player.number,
-        };
-        put_player(out, next);
+        put_between(out, player.number);
         return;
     }
     let part = player.part;

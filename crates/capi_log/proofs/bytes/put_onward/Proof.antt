@@ -12,7 +12,7 @@ returns c =
     let at-put = c .before .before in
     let at-if = at-put .before .before in
     let a = at-if .before .before .args in
-    at-put .put-player .ensures
+    at-put .put-between .ensures
     ∙ ap playerBytes (onward-next (a .player) (Refused (a .refusal)) (λ e. at-if .if1 .taken (sym (refused-number _ _ refl) ∙ e)))
 
 returns-2 : tie.Need-returns-2
@@ -20,7 +20,7 @@ returns-2 c =
     let at-put = c .before .before in
     let at-if = at-put .before .before .before in
     let a = at-if .before .before .args in
-    at-put .put-player2 .ensures ∙ ap playerBytes (onward-six (a .player) (Refused (a .refusal)) (refused-number _ _ refl ∙ at-if .if1 .left))
+    at-put .put-player .ensures ∙ ap playerBytes (onward-six (a .player) (Refused (a .refusal)) (refused-number _ _ refl ∙ at-if .if1 .left))
 
 pub put-onward-spec : {M : Type 1} → statement M
 put-onward-spec =
