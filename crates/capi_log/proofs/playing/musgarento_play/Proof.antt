@@ -22,8 +22,12 @@ start c = let lent = c .before .before .before .before in lent .before .before .
 is-card : (c : tie.Else1) → isCard (now (start (c .before) .args .card)) ≡ true
 is-card c = sym (c .before .is-card .ensures) ∙ not-false _ (c .if1 .left)
 
+-- the test of the card's bytes, seen from behind that of the player's
+abbrev tested : tie.Else2 → tie.After-is-card
+tested c = let at-is-player = c .before in at-is-player .before .before .before
+
 -- and a player's
-is-player : (c : tie.Else2) → isPlayer (now (start (c .before .before .before .before) .args .player)) ≡ true
+is-player : (c : tie.Else2) → isPlayer (now (start (tested c) .args .player)) ≡ true
 is-player c = sym (c .before .is-player .ensures) ∙ not-false _ (c .if2 .left)
 
 -- both tests, seen from what the player takes
