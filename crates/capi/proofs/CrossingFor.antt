@@ -52,7 +52,7 @@ module _ (card t p : List ℕ) (o : Operation) (x : unread card o ≡ 0) (r : Ou
   through card′ n v a k ec en ev ea ek = (λ i. handed (en i) (ec i) t′ p′ out′ (ev i) (ea i) (ek i)) ∙ ap (back card o) q ∙ rw x
 
 -- the lent buffers are no part of a card's bytes
-over-alone : (n : ℕ) (bytes : List ℕ) (c : Card) (t p : List ℕ) → cardOver n bytes (worldOf c [] []) ≡ cardOver n bytes (worldOf c t p)
+pub over-alone : (n : ℕ) (bytes : List ℕ) (c : Card) (t p : List ℕ) → cardOver n bytes (worldOf c [] []) ≡ cardOver n bytes (worldOf c t p)
 over-alone n bytes c t p = ap (λ (l : List ℕ). cond (eqb n 0) l bytes) (sym (card-alone c t p))
 
 -- ---- a call on the card that the bytes hold

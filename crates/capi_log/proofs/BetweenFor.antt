@@ -9,14 +9,16 @@ use lib.ListN.{length, take, drop, length-drop}
 use lib.Seq.{getD-take, length-take-le}
 use borrow.Author.Tests.{eqb-true}
 use Rattle.words.specs.Lists.{count}
-use Rattle.words.specs.Bytes.{byte, number, word16, word64, bytesOf}
+use Rattle.words.specs.Bytes.{byte, part, number, word16, word64, bytesOf}
 use Rattle.words.specs.Writers.{putAt}
 use Rattle.words.proofs.BoolLaws.{both}
 use Rattle.words.proofs.ByteLaws.{length-bytesOf}
 use Rattle.words.proofs.ListLaws.{map-listed}
 use Rattle.words.proofs.PutLaws.{over-all}
-use Rattle.log.specs.Players.{noPart, between}
-use Rattle.capi_log.specs.Crossing.{stageByte, playerBytes, isBetween}
+use Rattle.log.specs.declared.Stage.the-variants.{Records}
+use Rattle.log.specs.Players.{playerOf, noPart, between}
+use Rattle.capi_log.specs.Crossing.{stageByte, stageOf, playerBytes, playerIn, isBetween}
+use Rattle.capi_log.proofs.BytesExact.{first-two}
 
 first : (x y : ℕ) → x + 256 * y ≡ 0 → x ≡ 0
 first x y e = omega (arith, e)
@@ -81,3 +83,14 @@ module _ (l : List ℕ) (n : length l ≡ 25) (e : isBetween l ≡ true) where
   number-alone k =
       ap (λ (x : List ℕ). take 17 l ++ x) (over-all (bytesOf 8 k) (drop 17 l) (omega (arith, length-bytesOf 8 k, length-drop 17 l, n)))
       ∙ ap (λ (x : List ℕ). x ++ bytesOf 8 k) front
+
+  -- they hold that player
+  pub player-between : playerIn l ≡ between (word64 l 17)
+  unfolding playerIn stageOf part
+  player-between = λ i. playerOf (stage-is i) (stage .1 i) (part-is i) (word64 l 17)
+    where
+      stage-is : stageOf (byte l 0) ≡ Records
+      stage-is = ap stageOf (stage .0)
+
+      part-is : part 2 15 l ≡ noPart
+      part-is = ap (λ (x : List ℕ). drop 2 (take 17 x)) (first-two l n) ∙ ap (drop 2) front

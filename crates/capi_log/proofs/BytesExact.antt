@@ -32,7 +32,7 @@ behind-two l b n =
     ap (λ (x : List ℕ). part 2 15 l ++ x) (bytes-number l b 17 8 (omega (arith, n)) ∙ take-all 8 (drop 17 l) (omega (arith, length-drop 17 l, n)))
     ∙ part-next l 2 15
 
-first-two : (l : List ℕ) → length l ≡ 25 → byte l 0 ∷ byte l 1 ∷ drop 2 l ≡ l
+pub first-two : (l : List ℕ) → length l ≡ 25 → byte l 0 ∷ byte l 1 ∷ drop 2 l ≡ l
 first-two l n = ap (λ (x : List ℕ). byte l 0 ∷ x) (sym (drop-cons l 1 0 (omega (arith, n)))) ∙ sym (drop-cons l 0 0 (omega (arith, n)))
 
 -- A player that is handed back as it was has the bytes that it was handed in with

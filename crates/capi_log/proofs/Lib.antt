@@ -5,3 +5,4 @@ pub mod Refused
 pub mod WideRecords
 pub mod Interface
 pub mod BetweenFor
+pub mod TurnFor

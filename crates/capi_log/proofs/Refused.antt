@@ -17,8 +17,8 @@ use Rattle.log.specs.Players.{isPlaying}
 use Rattle.log.specs.Plays.{Performed, Played, playOf}
 use Rattle.log.specs.Cards.{onCard}
 use Rattle.log.proofs.OneCall.{play-refused, stands}
-use Rattle.player.specs.Plays.{heardOf, endedBy, packets, playCall}
-use Rattle.capi_log.specs.Crossing.{isCard, isPlayer, playerIn, playerBytes, Crossed, handed, endedCode, refusalIn, answerIn, cardAfter, back, played}
+use Rattle.player.specs.Plays.{heardOf, endedBy, packets, playCall, cardAfter}
+use Rattle.capi_log.specs.Crossing.{isCard, isPlayer, playerIn, playerBytes, Crossed, handed, endedCode, refusalIn, answerIn, back, played}
 use Rattle.capi_log.proofs.CrossingFor.{through}
 use Rattle.capi_log.proofs.BytesExact.{player-kept}
 
@@ -73,6 +73,6 @@ module _ (card table pending player log out : List ℕ) where
       → played card table pending player log out ≡ handed 30 card table pending player out 0 0 0 0 0
   unfolding playCall
   stands-still c e b n =
-      sym (through card table pending player log out c e (heardOf r out) refl)
+      sym (through card table pending player log out c e)
       ∙ ap (λ (x : Played World). back card (heardOf x out)) (stands (onCard out) (playerIn player) w log n)
       ∙ ap (λ (l : List ℕ). handed 30 card table pending l out 0 0 0 0 0) (player-kept player b e)

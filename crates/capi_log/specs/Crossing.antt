@@ -6,16 +6,16 @@ use lib.Dec.{ltb, eqb}
 use lib.ListN.{length}
 use Rattle.words.specs.Bytes.{byte, part, word16, word64, bytesOf}
 use Rattle.model.specs.Answers.{refusalOf, eventCode}
-use Rattle.model.specs.World.{World, worldOf}
+use Rattle.model.specs.World.{worldOf}
 use Rattle.model.specs.Image.{cardIn}
 use Rattle.log.specs.declared.Stage.{Stage}
 use Rattle.log.specs.declared.Stage.the-variants.{Header, Records, Again, Broken}
 use Rattle.log.specs.declared.Player.{Player}
 use Rattle.log.specs.Players.{playerOf}
+use Rattle.log.specs.Scanning.{wholeIn}
 use Rattle.player.specs.declared.play.Ended.{Ended}
 use Rattle.player.specs.declared.play.Ended.the-variants.{Nothing, With}
-use Rattle.player.specs.Plays.{Heard, playCall}
-use Rattle.capi.specs.Crossing.{cardOver}
+use Rattle.player.specs.Plays.{Heard, playCall, Left, leftBy}
 
 -- ---- a player as bytes: stage, bytes taken, the 15 bytes of a record, the number of complete records, low byte first
 
@@ -47,6 +47,10 @@ isPlayer bytes = eqb (length bytes) 25 && ltb (byte bytes 0) 4
 -- stage 1, no byte taken and 15 bytes 0: a player between two records, whatever its number
 unfoldable pub isBetween : List ℕ → Bool
 isBetween bytes = eqb (word16 bytes 0) 1 && eqb (word64 bytes 2) 0 && eqb (word64 bytes 9) 0
+
+-- how many bytes the record has that stands whole at the start of a log, for a player between two records; 0 for any other player, and if none does
+abbrev pub atOnce : (player log : List ℕ) → ℕ
+atOnce player log = cond (isBetween player) (wholeIn log) 0
 
 -- ---- what crosses
 
@@ -92,15 +96,14 @@ abbrev pub answerIn : Ended → ℕ
 answerIn Nothing = 0
 answerIn (With answer) = eventCode answer
 
--- the bytes of the card: they stay where no call was made, and beside a refusal
-abbrev pub cardAfter : List ℕ → Ended → World → List ℕ
-cardAfter card Nothing w = card
-cardAfter card (With answer) w = cardOver (refusalOf answer) card w
+-- what a call leaves, its player as bytes and its record's end as numbers
+abbrev pub across : Left → Crossed
+across x =
+    handed (x .refusal) (x .card) (x .table) (x .pending) (playerBytes (x .player)) (x .output) (x .taken) (endedCode (x .ended)) (refusalIn (x .ended))
+    (answerIn (x .ended)) (x .count)
 
 abbrev pub back : (card : List ℕ) → Heard → Crossed
-back card h =
-    handed (h .refusal) (cardAfter card (h .ended) (h .world)) (h .world .endpoint .table) (h .world .endpoint .pending) (playerBytes (h .player))
-    (h .output) (h .taken) (endedCode (h .ended)) (refusalIn (h .ended)) (answerIn (h .ended)) (h .count)
+back card h = across (leftBy card h)
 
 -- 60 where the bytes are no card's or no player's, and nothing changes; else the call of the player that they hold, on the card that they hold
 unfoldable pub played : (card table pending player log out : List ℕ) → Crossed

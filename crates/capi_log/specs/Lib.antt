@@ -1,3 +1,4 @@
 pub mod Crossing
+pub mod Turns
 pub mod Recording
 pub mod Interface

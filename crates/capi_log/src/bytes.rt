@@ -1,10 +1,9 @@
 // A player as 25 bytes: its stage, how many bytes it has taken, the 15 bytes of its record, and how many records were complete.
 ghost use mathlib.Core.Path.{_≡_};
+ghost use mathlib.Core.Bool.{true};
 ghost use lib.ListN.{length};
-ghost use Rattle.words.specs.Bytes.{part};
-ghost use Rattle.model.specs.declared.Answer.the-variants.{Refused};
-ghost use Rattle.log.specs.Players.{between};
-ghost use Rattle.log.specs.Plays.{onward};
+ghost use Rattle.words.specs.Bytes.{part, word64};
+ghost use Rattle.log.specs.Players.{between, counted};
 ghost use Rattle.capi_log.specs.Crossing.{stageOf, stageByte, playerIn, playerBytes, isCard, isPlayer, isBetween};
 use log::Player;
 use log::Stage;
@@ -96,7 +95,7 @@ pub fn put_player(out: &mut [u8], player: Player)
 }
 
 // Whether these are the bytes of a player between two records, whatever its number.
-fn is_between(bytes: &[u8]) -> bool
+pub fn is_between(bytes: &[u8]) -> bool
     requires { ⌜ length (now bytes) ≡ 25 ⌝ }
     ensures { λ r. ⌜ r ≡ isBetween (now (bytes .entry)) ⌝ }
 {
@@ -105,39 +104,11 @@ fn is_between(bytes: &[u8]) -> bool
         & (words::get::word64(bytes, 9) == 0)
 }
 
-// Writes a player between two records; of one that was there before, its number alone.
-fn put_between(out: &mut [u8], number: u64)
-    requires { ⌜ length (now out) ≡ 25 ⌝ }
-    ensures { λ r. ⌜ now (out .exit) ≡ playerBytes (between number) ⌝ }
+// Of the bytes of a player between two records: one more record was complete.
+pub fn put_counted(out: &mut [u8])
+    requires { ⌜ (length (now out) ≡ 25) × (isBetween (now out) ≡ true) ⌝ }
+    ensures { λ r. ⌜ now (out .exit) ≡ playerBytes (between (counted (word64 (now (out .entry)) 17))) ⌝ }
 {
-    if is_between(out) {
-        words::put::put_le(&mut out[17..], 8, number);
-        return;
-    }
-    let next = Player {
-        stage: Stage::Records,
-        taken: 0,
-        part: [0; 15],
-        number,
-    };
-    put_player(out, next);
-}
-
-// Writes the player that holds a record whose call was answered with a refusal, or 0: after 6 it is to be tried again, else the next record follows.
-pub fn put_onward(out: &mut [u8], player: Player, refusal: u8)
-    requires { ⌜ length (now out) ≡ 25 ⌝ }
-    ensures { λ r. ⌜ now (out .exit) ≡ playerBytes (onward player (Refused refusal)) ⌝ }
-{
-    if refusal != 6 {
-        put_between(out, player.number);
-        return;
-    }
-    let part = player.part;
-    let again = Player {
-        stage: Stage::Again,
-        taken: player.taken,
-        part,
-        number: player.number,
-    };
-    put_player(out, again);
+    let number = log::advance::counted(words::get::word64(out, 17));
+    words::put::put_le(&mut out[17..], 8, number);
 }

@@ -1,72 +1,25 @@
 // A log played.
 ghost use mathlib.Core.Path.{_≡_};
-ghost use Rattle.model.specs.Calls.{call};
-ghost use Rattle.log.specs.Logs.{callOf};
-ghost use Rattle.capi.specs.Crossing as Capi;
-ghost use Rattle.capi_log.specs.Crossing.{handed, played};
+ghost use Rattle.capi_log.specs.Crossing.{handed, endedCode, refusalIn, answerIn, played};
 use crate::bytes::is_card;
 use crate::bytes::is_player;
-use crate::bytes::player_of;
-use crate::bytes::put_onward;
-use crate::bytes::put_player;
-use capi::events::musgarento_event;
-use capi::events::musgarento_line;
-use capi::starts::musgarento_reset;
-use capi::writes::musgarento_bar_write;
-use capi::writes::musgarento_config_write;
-use log::Record;
+use crate::turn::take_turn;
+use player::play::Ended;
 
-// The call that a record is, through the interface: all that meets the card.
-fn perform(
-    card: &mut [u8],
-    table: &mut [u8],
-    pending: &mut [u8],
-    made: Record,
-    out: &mut [u8],
-    answer: &mut u8,
-    count: &mut usize,
-) -> u8
-    ensures { λ r. ⌜ Capi.handed r (now (card .exit)) (now (table .exit)) (now (pending .exit)) (now (out .exit)) 0 (now (answer .exit)) (now (count .exit))
-        ≡ Capi.crossed (now (card .entry)) (now (table .entry)) (now (pending .entry)) (call (callOf made (now (out .entry)))) ⌝ }
+// What became of a record as numbers: 1 if its call was made, its refusal, and what became of an event; each 0 where there is none.
+fn tell(made: Ended, ended: &mut u8, refusal: &mut u8, answer: &mut u8)
+    ensures { λ r. ⌜ (now (ended .exit) ≡ endedCode made) × (now (refusal .exit) ≡ refusalIn made) × (now (answer .exit) ≡ answerIn made) ⌝ }
 {
+    *ended = 0;
+    *refusal = 0;
     *answer = 0;
-    match made {
-        Record::Event(number) => {
-            musgarento_event(card, table, pending, number as u64, out, answer, count)
-        }
-        Record::Line(level) => musgarento_line(card, table, pending, level as u64, out, count),
-        Record::ConfigWrite {
-            offset,
-            width,
-            value,
-        } => musgarento_config_write(
-            card,
-            table,
-            pending,
-            offset as u64,
-            width as u64,
-            value,
-            out,
-            count,
-        ),
-        Record::BarWrite {
-            bar,
-            offset,
-            width,
-            value,
-        } => musgarento_bar_write(
-            card,
-            table,
-            pending,
-            bar as u64,
-            offset as u64,
-            width as u64,
-            value,
-            out,
-            count,
-        ),
-        Record::Reset => musgarento_reset(card, table, pending, out, count),
-    }
+    let Ended::With(given) = made else {
+        return;
+    };
+    let numbers = capi::bytes::numbers_of(given);
+    *ended = 1;
+    *refusal = numbers.refusal;
+    *answer = numbers.event;
 }
 
 #[no_mangle]
@@ -98,16 +51,9 @@ pub extern "C" fn musgarento_play(
     if !is_player(player) {
         return 60;
     }
-    let next = log::advance::advance(player_of(player), log);
-    *taken = next.taken;
-    let held = next.player;
-    if !next.due {
-        put_player(player, held);
-        return next.refusal;
-    }
-    let made = log::advance::held_record(held);
-    *refusal = perform(card, table, pending, made, out, answer, count);
-    *ended = 1;
-    put_onward(player, held, *refusal);
-    0
+    let played = take_turn(card, table, pending, player, log, out, count);
+    *taken = played.taken;
+    let made = played.ended;
+    tell(made, ended, refusal, answer);
+    played.refusal
 }

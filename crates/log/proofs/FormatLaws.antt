@@ -46,6 +46,25 @@ module _ (l : List ℕ) where
   unfolding recordIn
   is-reset n1 n2 n3 n4 = rw (ne-eqb (byte l 0) 1 n1, ne-eqb (byte l 0) 2 n2, ne-eqb (byte l 0) 3 n3, ne-eqb (byte l 0) 4 n4)
 
+  -- ---- a slice that holds all of its record: room for the bytes of its kind
+
+  module _ (h : sizeOf (byte l 0) ≤ length l) where
+    pub event-room : byte l 0 ≡ 1 → 3 ≤ length l
+    unfolding sizeOf firstOf
+    event-room e = rw e at h
+
+    pub line-room : byte l 0 ≡ 2 → 2 ≤ length l
+    unfolding sizeOf firstOf
+    line-room e = rw e at h
+
+    pub config-room : byte l 0 ≡ 3 → 8 ≤ length l
+    unfolding sizeOf firstOf
+    config-room e = rw e at h
+
+    pub bar-room : byte l 0 ≡ 4 → 15 ≤ length l
+    unfolding sizeOf firstOf
+    bar-room e = rw e at h
+
 -- ---- appending
 
 module _ (bytes out : List ℕ) where

@@ -11,3 +11,4 @@ pub mod ScanLaws
 pub mod FormatLaws
 pub mod PlayerLaws
 pub mod Taking
+pub mod WholeLaws

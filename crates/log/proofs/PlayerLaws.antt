@@ -5,16 +5,15 @@ use mathlib.Core.List.{List}
 use Prim.Native.Nat.{ℕ, suc, _+_, _<_}
 use native.Mathlib.Numerals.{add-one}
 use native.Mathlib.Omega.{arith}
-use borrow.Author.Tests.{eq-eqb, ne-eqb, lt-ltb, ltb-true}
+use borrow.Author.Tests.{lt-ltb, ltb-true}
 use Rattle.model.specs.declared.Answer.{Answer}
-use Rattle.model.specs.Answers.{refusalOf}
 use Rattle.log.specs.declared.Player.{Player}
 use Rattle.log.specs.declared.Stage.{Stage}
 use Rattle.log.specs.declared.Stage.the-variants.{Header, Records, Again, Broken}
 use Rattle.log.specs.declared.Scanned.{Scanned}
 use Rattle.log.specs.declared.Advanced.{Advanced}
 use Rattle.log.specs.Players.{playerOf, between, counted, advancedOf, stopped, scan, scanned, resumed, advanced, isPlaying}
-use Rattle.log.specs.Plays.{onward}
+use Rattle.log.specs.Plays.{triesAgain, onward}
 
 pub counted-last : (n : ℕ) → n ≡ 18446744073709551615 → n ≡ counted n
 unfolding counted
@@ -24,13 +23,13 @@ pub counted-next : (n : ℕ) → n < 18446744073709551616 → (n ≡ 18446744073
 unfolding counted
 counted-next n h e = rw (add-one n, lt-ltb (suc n) 18446744073709551616 (omega (arith, h, e)))
 
-pub onward-six : (p : Player) (a : Answer) → refusalOf a ≡ 6 → playerOf Again (p .taken) (p .part) (p .number) ≡ onward p a
+pub onward-again : (p : Player) (a : Answer) → triesAgain a ≡ true → playerOf Again (p .taken) (p .part) (p .number) ≡ onward p a
 unfolding onward
-onward-six p a e = rw (eq-eqb (refusalOf a) 6 e)
+onward-again p a e = rw e
 
-pub onward-next : (p : Player) (a : Answer) → (refusalOf a ≡ 6 → ⊥) → between (p .number) ≡ onward p a
+pub onward-next : (p : Player) (a : Answer) → triesAgain a ≡ false → between (p .number) ≡ onward p a
 unfolding onward
-onward-next p a n = rw (ne-eqb (refusalOf a) 6 n)
+onward-next p a e = rw e
 
 -- a player that stands, and one that goes on
 pub advance-stands : (p : Player) (l : List ℕ) → isPlaying (p .stage) (p .taken) (p .part) ≡ false → stopped p ≡ advanced p l

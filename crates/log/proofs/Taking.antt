@@ -16,6 +16,7 @@ use Rattle.log.specs.declared.Record.the-variants.{Event, Line, ConfigWr
 use Rattle.log.specs.Logs.{Fits, header, sizeOf, recordIn, bytesIn}
 use Rattle.log.specs.Players.{fresh, between, broken, isPlaying, fitsLater, fitsRecord, fits, with, complete, scan, advancedOf, scanned, resumed, advanced}
 use Rattle.log.specs.Plays.{Performed, Played, tried, idle, made, playOf}
+use Rattle.log.proofs.WholeLaws.{TakesWhole, whole-event, whole-line, whole-config, whole-bar, whole-reset}
 
 module _ {W : Type 0} (perform : W → Record → Performed W) (w : W) (n : ℕ) (l : List ℕ) where
   -- a call of a player between two records
@@ -28,30 +29,14 @@ module _ {W : Type 0} (perform : W → Record → Performed W) (w : W) (n : ℕ)
     pub refusal : x .refusal ≡ 0
     pub result : x .result ≡ some (perform w r)
 
-  take-event : (a b : ℕ) → Took (call (1 ∷ a ∷ b ∷ l)) 3 (Event (a + 256 * (b + 256 * 0)))
-  unfolding playOf advanced resumed scanned made tried isPlaying scan fits fitsLater fitsRecord with complete sizeOf firstOf recordIn word16 number
-  take-event a b = record { taken = refl; refusal = refl; result = refl }
-
-  take-line : (level : Bool) → Took (call (2 ∷ ofBool level ∷ l)) 2 (Line level)
-  unfolding playOf advanced resumed scanned made tried isPlaying scan fits fitsLater fitsRecord with complete sizeOf firstOf recordIn ofBool
-  take-line true = record { taken = refl; refusal = refl; result = refl }
-  take-line false = record { taken = refl; refusal = refl; result = refl }
-
-  take-config : (o0 o1 k x0 x1 x2 x3 : ℕ)
-      → Took (call (3 ∷ o0 ∷ o1 ∷ k ∷ x0 ∷ x1 ∷ x2 ∷ x3 ∷ l)) 8
-      (ConfigWrite (number (byte (o0 ∷ o1 ∷ [])) 0 2) k (number (byte (x0 ∷ x1 ∷ x2 ∷ x3 ∷ [])) 0 4))
-  unfolding playOf advanced resumed scanned made tried isPlaying scan fits fitsLater fitsRecord with complete sizeOf firstOf recordIn word16 word32 number
-  take-config o0 o1 k x0 x1 x2 x3 = record { taken = refl; refusal = refl; result = refl }
-
-  take-bar : (b a0 a1 a2 a3 k x0 x1 x2 x3 x4 x5 x6 x7 : ℕ)
-      → Took (call (4 ∷ b ∷ a0 ∷ a1 ∷ a2 ∷ a3 ∷ k ∷ x0 ∷ x1 ∷ x2 ∷ x3 ∷ x4 ∷ x5 ∷ x6 ∷ x7 ∷ l)) 15
-      (BarWrite b (number (byte (a0 ∷ a1 ∷ a2 ∷ a3 ∷ [])) 0 4) k (number (byte (x0 ∷ x1 ∷ x2 ∷ x3 ∷ x4 ∷ x5 ∷ x6 ∷ x7 ∷ [])) 0 8))
-  unfolding playOf advanced resumed scanned made tried isPlaying scan fits fitsLater fitsRecord with complete sizeOf firstOf recordIn word32 word64 number
-  take-bar b a0 a1 a2 a3 k x0 x1 x2 x3 x4 x5 x6 x7 = record { taken = refl; refusal = refl; result = refl }
-
-  take-reset : Took (call (5 ∷ l)) 1 Reset
-  unfolding playOf advanced resumed scanned made tried isPlaying scan fits fitsLater fitsRecord with complete sizeOf firstOf recordIn
-  take-reset = record { taken = refl; refusal = refl; result = refl }
+  -- of a record that stands whole at the start
+  performs : (x : List ℕ) (size : ℕ) → TakesWhole n x size → Took (call x) size (recordIn x)
+  unfolding playOf made tried
+  performs x size t = record {
+    taken = rw (t .due) (t .taken);
+    refusal = rw (t .due);
+    result = rw (t .due) (ap (λ (k : Record). some (perform w k)) (t .held));
+  }
 
   -- another record that is the same
   likewise : {x : Played W} {count : ℕ} {r r′ : Record} → r ≡ r′ → Took x count r → Took x count r′
@@ -60,18 +45,19 @@ module _ {W : Type 0} (perform : W → Record → Performed W) (w : W) (n : ℕ)
   -- "each call takes what it is given up to the end of the first complete record and tells how many bytes": of a record's bytes with any others behind them
   -- it takes the record's, and performs that record
   pub takes-record : (r : Record) → Fits r → Took (call (bytesIn r ++ l)) (length (bytesIn r)) r
-  unfolding bytesIn bytesOf number
-  takes-record (Event e) h = likewise (ap Event (number-bytesOf 2 e h)) (take-event (e % 256) (e / 256 % 256))
-  takes-record (Line level) h = take-line level
+  unfolding bytesIn bytesOf number recordIn word16 word32 word64 ofBool
+  takes-record (Event e) h = likewise (ap Event (number-bytesOf 2 e h)) (performs _ 3 (whole-event n l (e % 256) (e / 256 % 256)))
+  takes-record (Line true) h = performs _ 2 (whole-line n l 1 refl)
+  takes-record (Line false) h = performs _ 2 (whole-line n l 0 refl)
   takes-record (ConfigWrite o k x) h =
       likewise (ap₂ (λ (a b : ℕ). ConfigWrite a k b) (number-bytesOf 2 o (h .0)) (number-bytesOf 4 x (h .2)))
-      (take-config (o % 256) (o / 256 % 256) k (x % 256) (x / 256 % 256) (x / 256 / 256 % 256) (x / 256 / 256 / 256 % 256))
+      (performs _ 8 (whole-config n l (o % 256) (o / 256 % 256) k (x % 256) (x / 256 % 256) (x / 256 / 256 % 256) (x / 256 / 256 / 256 % 256)))
   takes-record (BarWrite b o k x) h =
       likewise (ap₂ (λ (a c : ℕ). BarWrite b a k c) (number-bytesOf 4 o (h .1)) (number-bytesOf 8 x (h .3)))
-      (take-bar b (o % 256) (o / 256 % 256) (o / 256 / 256 % 256) (o / 256 / 256 / 256 % 256) k (x % 256) (x / 256 % 256) (x / 256 / 256 % 256)
-      (x / 256 / 256 / 256 % 256) (x / 256 / 256 / 256 / 256 % 256) (x / 256 / 256 / 256 / 256 / 256 % 256)
-      (x / 256 / 256 / 256 / 256 / 256 / 256 % 256) (x / 256 / 256 / 256 / 256 / 256 / 256 / 256 % 256))
-  takes-record Reset h = take-reset
+      (performs _ 15 (whole-bar n l b (o % 256) (o / 256 % 256) (o / 256 / 256 % 256) (o / 256 / 256 / 256 % 256) k (x % 256) (x / 256 % 256)
+      (x / 256 / 256 % 256) (x / 256 / 256 / 256 % 256) (x / 256 / 256 / 256 / 256 % 256) (x / 256 / 256 / 256 / 256 / 256 % 256)
+      (x / 256 / 256 / 256 / 256 / 256 / 256 % 256) (x / 256 / 256 / 256 / 256 / 256 / 256 / 256 % 256)))
+  takes-record Reset h = performs _ 1 (whole-reset n l)
 
   -- ---- "The first wrong byte of mark, version, kind or line is refusal 30; it and all after it are not taken"
 

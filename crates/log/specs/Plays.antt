@@ -1,5 +1,5 @@
 -- Document 02, request [1]: one call of a player. What a record does is any function `perform`. Assumes nothing.
-use mathlib.Core.Bool.{cond}
+use mathlib.Core.Bool.{Bool, cond}
 use mathlib.Core.List.{List}
 use mathlib.Core.Option.{Option, none, some}
 use Prim.Native.Nat.{ℕ}
@@ -33,8 +33,11 @@ worldBy none w = w
 worldBy (some r) w = r .world
 
 -- "The card's own refusals are noted and play goes on, except 6": then the same record is to be tried again
+abbrev pub triesAgain : Answer → Bool
+triesAgain a = eqb (refusalOf a) 6
+
 unfoldable pub onward : Player → Answer → Player
-onward p a = cond (eqb (refusalOf a) 6) (playerOf Again (p .taken) (p .part) (p .number)) (between (p .number))
+onward p a = cond (triesAgain a) (playerOf Again (p .taken) (p .part) (p .number)) (between (p .number))
 
 -- ---- one call: the record that is due is performed
 

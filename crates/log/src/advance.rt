@@ -4,7 +4,7 @@ ghost use mathlib.Core.Bool.{true};
 ghost use Rattle.log.specs.declared.Stage.the-variants.{Records};
 ghost use Rattle.log.specs.Logs.{recordIn};
 ghost use Rattle.log.specs.Players.{playerOf, between, isPlaying, counted, advancedOf, stopped, scanned, advanced};
-ghost use Rattle.log.specs.Plays.{onward};
+ghost use Rattle.log.specs.Plays.{triesAgain, onward};
 use crate::Advanced;
 use crate::End;
 use crate::Player;
@@ -19,7 +19,7 @@ use crate::scan::scan_record;
 use model::Answer;
 
 // One more record is complete; past 2^64 - 1 the number stays there.
-fn counted(number: u64) -> u64
+pub fn counted(number: u64) -> u64
     ensures { λ r. ⌜ r ≡ counted number ⌝ }
 {
     if number == 0xffffffffffffffff {
@@ -141,14 +141,21 @@ pub fn held_record(player: Player) -> Record
     record_in(&part)
 }
 
-// After the record's call: 6 is tried again; after any other answer the next record follows.
+// Whether a record that was answered so is to be tried again: after 6 it is.
+pub fn tries_again(answer: Answer) -> bool
+    ensures { λ r. ⌜ r ≡ triesAgain answer ⌝ }
+{
+    let Answer::Refused(number) = answer else {
+        return false;
+    };
+    number == 6
+}
+
+// After the record's call: it is tried again, or the next record follows.
 pub fn onward(player: Player, answer: Answer) -> Player
     ensures { λ r. ⌜ r ≡ onward player answer ⌝ }
 {
-    let Answer::Refused(number) = answer else {
-        return between(player.number);
-    };
-    if number != 6 {
+    if !tries_again(answer) {
         return between(player.number);
     }
     let part = player.part;

@@ -1,9 +1,9 @@
 // The bytes of a record.
 ghost use mathlib.Core.Path.{_≡_};
-ghost use Prim.Native.Nat.{_≤_};
+ghost use Prim.Native.Nat.{_≤_, _<_};
 ghost use lib.ListN.{length};
-ghost use Rattle.words.specs.Writers.{Wrote};
-ghost use Rattle.log.specs.Logs.{sizeOf, recordIn, bytesIn};
+ghost use Rattle.words.specs.Bytes.{byte};
+ghost use Rattle.log.specs.Logs.{sizeOf, recordIn};
 use crate::Record;
 
 // How many bytes a record of a kind has; 0 for what is no kind.
@@ -22,7 +22,7 @@ pub fn size_of(kind: u8) -> usize
 
 // The record whose bytes stand at the start of a slice.
 pub fn record_in(part: &[u8]) -> Record
-    requires { ⌜ 15 ≤ length (now part) ⌝ }
+    requires { ⌜ (0 < length (now part)) × (sizeOf (byte (now part) 0) ≤ length (now part)) ⌝ }
     ensures { λ r. ⌜ r ≡ recordIn (now (part .entry)) ⌝ }
 {
     match part[0] {

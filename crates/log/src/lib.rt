@@ -3,6 +3,7 @@ pub mod advance; // what a call of a player takes
 pub mod format; // the bytes of a record
 pub mod recorder; // records appended
 pub mod scan; // bytes taken one by one
+pub mod whole; // a record that stands whole in the bytes
 
 // A call that a log holds.
 pub enum Record {

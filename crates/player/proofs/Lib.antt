@@ -1,2 +1,3 @@
 pub mod PlayLaws
 pub mod Refused
+pub mod PerformLaws

@@ -4,8 +4,15 @@ use mathlib.Core.Option.{Option, none, some}
 use Prim.Native.Nat.{ℕ}
 use lib.ListN.{length}
 use Rattle.words.specs.Writers.{over}
+use Rattle.model.specs.declared.Answer.{Answer}
+use Rattle.model.specs.Answers.{refusalOf}
 use Rattle.model.specs.World.{World, worldOf}
+use Rattle.model.specs.Image.{cardIn}
+use Rattle.model.specs.Calls.{Outcome, step}
+use Rattle.capi.specs.Crossing.{cardOver}
 use Rattle.log.specs.declared.Player.{Player}
+use Rattle.log.specs.declared.Record.{Record}
+use Rattle.log.specs.Logs.{callOf}
 use Rattle.log.specs.Plays as Plays
 use Rattle.log.specs.Cards.{onCard}
 use Rattle.player.specs.declared.play.Ended.{Ended}
@@ -46,14 +53,70 @@ heardOf r out = record {
 unfoldable pub playCall : Player → World → (log out : List ℕ) → Heard
 playCall p w log out = heardOf (Plays.playOf (onCard out) p w log) out
 
--- a result of the code with the later contents of table, pending array and output
-abbrev pub heard : Played → (table pending output : List ℕ) → Heard
-heard r table pending output = record {
+-- ---- a record's call on a card as its 289 bytes
+
+-- what it hands back: its answer, the later contents of each buffer, and how many bytes of the output are new
+pub record Gave : Type 0 where
+  pub answer : Answer
+  pub card : List ℕ
+  pub table : List ℕ
+  pub pending : List ℕ
+  pub output : List ℕ
+  pub count : ℕ
+
+abbrev pub gave : Answer → (card table pending output : List ℕ) → (count : ℕ) → Gave
+gave answer card table pending output count = record { answer = answer; card = card; table = table; pending = pending; output = output; count = count }
+
+-- an outcome, its card over the bytes of the card before it, which stay beside a refusal
+abbrev pub gaveBy : (card : List ℕ) → Outcome → Gave
+gaveBy card o =
+    gave (o .answer) (cardOver (refusalOf (o .answer)) card (o .world)) (o .world .endpoint .table) (o .world .endpoint .pending) (o .output) (o .count)
+
+abbrev pub performed : (card table pending : List ℕ) → Record → (out : List ℕ) → Gave
+performed card table pending r out = gaveBy card (step (worldOf (cardIn card) table pending) (callOf r out))
+
+-- ---- a call of a player there
+
+-- what it leaves: player, buffers and output, with the numbers that it hands back
+pub record Left : Type 0 where
+  pub player : Player
+  pub card : List ℕ
+  pub table : List ℕ
+  pub pending : List ℕ
+  pub taken : ℕ
+  pub refusal : ℕ
+  pub ended : Ended
+  pub count : ℕ
+  pub output : List ℕ
+
+-- the bytes of the card: they stay where no call was made, and beside a refusal
+abbrev pub cardAfter : List ℕ → Ended → World → List ℕ
+cardAfter card Nothing w = card
+cardAfter card (With answer) w = cardOver (refusalOf answer) card w
+
+abbrev pub leftBy : (card : List ℕ) → Heard → Left
+leftBy card h = record {
+  player = h .player;
+  card = cardAfter card (h .ended) (h .world);
+  table = h .world .endpoint .table;
+  pending = h .world .endpoint .pending;
+  taken = h .taken;
+  refusal = h .refusal;
+  ended = h .ended;
+  count = h .count;
+  output = h .output;
+}
+
+-- a result of the code with the later contents of each buffer
+abbrev pub left : Played → (card table pending output : List ℕ) → (count : ℕ) → Left
+left r card table pending output count = record {
   player = r .player;
-  world = worldOf (r .card) table pending;
+  card = card;
+  table = table;
+  pending = pending;
   taken = r .taken;
   refusal = r .refusal;
   ended = r .ended;
-  count = r .count;
+  count = count;
   output = output;
 }

@@ -1,45 +1,88 @@
-// The call that a record is. Nothing else of a player meets the card.
+// The call that a record is, on a card as its 289 bytes. Nothing else of a player meets the card.
 ghost use mathlib.Core.Path.{_≡_};
+ghost use mathlib.Core.List.{[]};
+ghost use lib.ListN.{length};
+ghost use Rattle.model.specs.Answers.{refusalOf};
 ghost use Rattle.model.specs.World.{worldOf};
-ghost use Rattle.model.specs.Calls.{step};
-ghost use Rattle.card.specs.Outcomes.{after};
-ghost use Rattle.log.specs.Logs.{callOf};
+ghost use Rattle.capi.specs.Crossing.{cardOver};
+ghost use Rattle.player.specs.Plays.{gave, performed};
+use capi::bytes::hand_back;
 use card::outcome::Outcome;
+use image::get::card_of;
 use log::Record;
-use model::Card;
+use model::Answer;
+
+// Hands back an outcome: its card over the bytes of the card before it, which stay beside a refusal, how many bytes of the output are new, and its answer.
+fn finish(card: &mut [u8], outcome: Outcome, count: &mut usize) -> Answer
+    requires { ⌜ length (now card) ≡ 289 ⌝ }
+    ensures { λ r. ⌜ (r ≡ outcome .answer) × (now (count .exit) ≡ outcome .count)
+        × (now (card .exit) ≡ cardOver (refusalOf (outcome .answer)) (now (card .entry)) (worldOf (outcome .card) [] [])) ⌝ }
+{
+    *count = outcome.count;
+    let answer = outcome.answer;
+    hand_back(card, outcome);
+    answer
+}
 
 pub fn perform(
-    card: Card,
+    card: &mut [u8],
     table: &mut [u8],
     pending: &mut [u8],
     call: Record,
     out: &mut [u8],
-) -> Outcome
-    ensures { λ r. ⌜ after r (now (table .exit)) (now (pending .exit)) (now (out .exit))
-        ≡ step (worldOf card (now (table .entry)) (now (pending .entry))) (callOf call (now (out .entry))) ⌝ }
+    count: &mut usize,
+) -> Answer
+    requires { ⌜ length (now card) ≡ 289 ⌝ }
+    ensures { λ r. ⌜ gave r (now (card .exit)) (now (table .exit)) (now (pending .exit)) (now (out .exit)) (now (count .exit))
+        ≡ performed (now (card .entry)) (now (table .entry)) (now (pending .entry)) call (now (out .entry)) ⌝ }
 {
+    let held = card_of(card);
     match call {
-        Record::Event(number) => interrupt::event::event(card, table, pending, number, out),
-        Record::Line(level) => interrupt::line::line(card, table, pending, level, out),
+        Record::Event(number) => {
+            let outcome = interrupt::event::event(held, table, pending, number, out);
+            finish(card, outcome, count)
+        }
+        Record::Line(level) => {
+            let outcome = interrupt::line::line(held, table, pending, level, out);
+            finish(card, outcome, count)
+        }
         Record::ConfigWrite {
             offset,
             width,
             value,
-        } => config_access::config_write::config_write(
-            card,
-            table,
-            pending,
-            offset,
-            width,
-            value,
-            out,
-        ),
+        } => {
+            let outcome = config_access::config_write::config_write(
+                held,
+                table,
+                pending,
+                offset,
+                width,
+                value,
+                out,
+            );
+            finish(card, outcome, count)
+        }
         Record::BarWrite {
             bar,
             offset,
             width,
             value,
-        } => bar_access::bar_write::bar_write(card, table, pending, bar, offset, width, value, out),
-        Record::Reset => lifecycle::reset::reset(card, table, pending, out),
+        } => {
+            let outcome = bar_access::bar_write::bar_write(
+                held,
+                table,
+                pending,
+                bar,
+                offset,
+                width,
+                value,
+                out,
+            );
+            finish(card, outcome, count)
+        }
+        Record::Reset => {
+            let outcome = lifecycle::reset::reset(held, table, pending, out);
+            finish(card, outcome, count)
+        }
     }
 }

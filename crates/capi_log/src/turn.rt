@@ -1,0 +1,129 @@
+// A call of a player, on the bytes of the card and of the player.
+ghost use mathlib.Core.Path.{_≡_};
+ghost use mathlib.Core.Bool.{true};
+ghost use lib.ListN.{length};
+ghost use Rattle.model.specs.World.{worldOf};
+ghost use Rattle.model.specs.Image.{cardIn};
+ghost use Rattle.log.specs.Scanning.{wholeIn};
+ghost use Rattle.log.specs.Players.{advanced};
+ghost use Rattle.log.specs.Plays.{onward};
+ghost use Rattle.player.specs.Plays.{playCall};
+ghost use Rattle.capi_log.specs.Crossing.{playerIn, playerBytes, isBetween, atOnce, back};
+ghost use Rattle.capi_log.specs.Turns.{turned};
+use crate::bytes::is_between;
+use crate::bytes::player_of;
+use crate::bytes::put_counted;
+use crate::bytes::put_player;
+use log::advance::advance;
+use log::advance::onward;
+use log::advance::tries_again;
+use log::format::record_in;
+use log::whole::whole_in;
+use model::Answer;
+use player::perform::perform;
+use player::play::Ended;
+use player::play::play;
+
+// What a call hands back beside the bytes: how many bytes of the log it took, 0 or 30, and what became of the record.
+pub struct Turn {
+    pub taken: usize,
+    pub refusal: u8,
+    pub ended: Ended,
+}
+
+// How many bytes the record has that stands whole in the log, where the player is between two records; else 0.
+fn at_once(player: &[u8], log: &[u8]) -> usize
+    requires { ⌜ length (now player) ≡ 25 ⌝ }
+    ensures { λ r. ⌜ r ≡ atOnce (now (player .entry)) (now (log .entry)) ⌝ }
+{
+    if !is_between(player) {
+        return 0;
+    }
+    whole_in(log)
+}
+
+// Writes the player after that record was answered: it is kept if it is to be tried again.
+fn put_after(player: &mut [u8], log: &[u8], answer: Answer)
+    requires { ⌜ (length (now player) ≡ 25) × (atOnce (now player) (now log) ≡ 0 → ⊥) ⌝ }
+    ensures { λ r. ⌜ now (player .exit) ≡ playerBytes (onward (advanced (playerIn (now (player .entry))) (now (log .entry)) .player) answer) ⌝ }
+{
+    if !tries_again(answer) {
+        put_counted(player);
+        return;
+    }
+    let next = advance(player_of(player), log);
+    let held = next.player;
+    put_player(player, onward(held, answer));
+}
+
+// That record is read where it stands.
+fn turn_at_once(
+    card: &mut [u8],
+    table: &mut [u8],
+    pending: &mut [u8],
+    player: &mut [u8],
+    log: &[u8],
+    out: &mut [u8],
+    count: &mut usize,
+    size: usize,
+) -> Turn
+    requires { ⌜ (length (now card) ≡ 289) × (length (now player) ≡ 25) × (size ≡ atOnce (now player) (now log)) × (size ≡ 0 → ⊥) ⌝ }
+    ensures { λ r. ⌜ turned r (now (card .exit)) (now (table .exit)) (now (pending .exit)) (now (player .exit)) (now (out .exit)) (now (count .exit))
+        ≡ back (now (card .entry)) (playCall (playerIn (now (player .entry))) (worldOf (cardIn (now (card .entry))) (now (table .entry)) (now (pending .entry)))
+        (now (log .entry)) (now (out .entry))) ⌝ }
+{
+    let answer = perform(card, table, pending, record_in(log), out, count);
+    put_after(player, log, answer);
+    Turn {
+        taken: size,
+        refusal: 0,
+        ended: Ended::With(answer),
+    }
+}
+
+// Any other call.
+fn turn_on(
+    card: &mut [u8],
+    table: &mut [u8],
+    pending: &mut [u8],
+    player: &mut [u8],
+    log: &[u8],
+    out: &mut [u8],
+    count: &mut usize,
+) -> Turn
+    requires { ⌜ (length (now card) ≡ 289) × (length (now player) ≡ 25) ⌝ }
+    ensures { λ r. ⌜ turned r (now (card .exit)) (now (table .exit)) (now (pending .exit)) (now (player .exit)) (now (out .exit)) (now (count .exit))
+        ≡ back (now (card .entry)) (playCall (playerIn (now (player .entry))) (worldOf (cardIn (now (card .entry))) (now (table .entry)) (now (pending .entry)))
+        (now (log .entry)) (now (out .entry))) ⌝ }
+{
+    let played = play(card, table, pending, player_of(player), log, out, count);
+    let next = played.player;
+    put_player(player, next);
+    let ended = played.ended;
+    Turn {
+        taken: played.taken,
+        refusal: played.refusal,
+        ended,
+    }
+}
+
+pub fn take_turn(
+    card: &mut [u8],
+    table: &mut [u8],
+    pending: &mut [u8],
+    player: &mut [u8],
+    log: &[u8],
+    out: &mut [u8],
+    count: &mut usize,
+) -> Turn
+    requires { ⌜ (length (now card) ≡ 289) × (length (now player) ≡ 25) ⌝ }
+    ensures { λ r. ⌜ turned r (now (card .exit)) (now (table .exit)) (now (pending .exit)) (now (player .exit)) (now (out .exit)) (now (count .exit))
+        ≡ back (now (card .entry)) (playCall (playerIn (now (player .entry))) (worldOf (cardIn (now (card .entry))) (now (table .entry)) (now (pending .entry)))
+        (now (log .entry)) (now (out .entry))) ⌝ }
+{
+    let size = at_once(player, log);
+    if size == 0 {
+        return turn_on(card, table, pending, player, log, out, count);
+    }
+    turn_at_once(card, table, pending, player, log, out, count, size)
+}
