@@ -36,14 +36,13 @@ pub fn perform(
     ensures { λ r. ⌜ gave r (now (card .exit)) (now (table .exit)) (now (pending .exit)) (now (out .exit)) (now (count .exit))
         ≡ performed (now (card .entry)) (now (table .entry)) (now (pending .entry)) call (now (out .entry)) ⌝ }
 {
-    let held = card_of(card);
     match call {
         Record::Event(number) => {
-            let outcome = interrupt::event::event(held, table, pending, number, out);
+            let outcome = interrupt::event::event(card_of(card), table, pending, number, out);
             finish(card, outcome, count)
         }
         Record::Line(level) => {
-            let outcome = interrupt::line::line(held, table, pending, level, out);
+            let outcome = interrupt::line::line(card_of(card), table, pending, level, out);
             finish(card, outcome, count)
         }
         Record::ConfigWrite {
@@ -52,7 +51,7 @@ pub fn perform(
             value,
         } => {
             let outcome = config_access::config_write::config_write(
-                held,
+                card_of(card),
                 table,
                 pending,
                 offset,
@@ -69,7 +68,7 @@ pub fn perform(
             value,
         } => {
             let outcome = bar_access::bar_write::bar_write(
-                held,
+                card_of(card),
                 table,
                 pending,
                 bar,
@@ -81,7 +80,7 @@ pub fn perform(
             finish(card, outcome, count)
         }
         Record::Reset => {
-            let outcome = lifecycle::reset::reset(held, table, pending, out);
+            let outcome = lifecycle::reset::reset(card_of(card), table, pending, out);
             finish(card, outcome, count)
         }
     }
