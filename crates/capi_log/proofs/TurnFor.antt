@@ -16,7 +16,7 @@ use Rattle.log.specs.declared.Advanced.{Advanced}
 use Rattle.log.specs.Logs.{sizeOf, recordIn}
 use Rattle.log.specs.Players.{between, counted, advanced}
 use Rattle.log.specs.Scanning.{wholeIn}
-use Rattle.log.specs.Plays.{triesAgain, onward}
+use Rattle.log.specs.Plays.{lacksRoom, onward}
 use Rattle.log.proofs.PlayerLaws.{onward-next}
 use Rattle.log.proofs.WholeLaws.{DueWhole, whole-room, takes-whole}
 use Rattle.player.specs.Plays.{Gave, performed, Left, leftBy, playCall}
@@ -55,7 +55,7 @@ module _ (player log : List ℕ) where
           (takes-whole (word64 player 17) log is-whole)
 
       -- answered otherwise than with 6: the next record follows
-      pub after-counted : (a : Answer) → triesAgain a ≡ false → playerBytes (between (counted (word64 player 17))) ≡ playerBytes (onward (next .player) a)
+      pub after-counted : (a : Answer) → lacksRoom a ≡ false → playerBytes (between (counted (word64 player 17))) ≡ playerBytes (onward (next .player) a)
       after-counted a e = ap (λ (k : ℕ). playerBytes (between k)) (sym (at-once-due .number)) ∙ ap playerBytes (onward-next (next .player) a e)
 
       -- the record was performed, and the player written after it

@@ -16,7 +16,7 @@ use crate::bytes::put_counted;
 use crate::bytes::put_player;
 use log::advance::advance;
 use log::advance::onward;
-use log::advance::tries_again;
+use log::answer::lacks_room;
 use log::format::record_in;
 use log::whole::whole_in;
 use model::Answer;
@@ -47,7 +47,7 @@ fn put_after(player: &mut [u8], log: &[u8], answer: Answer)
     requires { ⌜ (length (now player) ≡ 25) × (atOnce (now player) (now log) ≡ 0 → ⊥) ⌝ }
     ensures { λ r. ⌜ now (player .exit) ≡ playerBytes (onward (advanced (playerIn (now (player .entry))) (now (log .entry)) .player) answer) ⌝ }
 {
-    if !tries_again(answer) {
+    if !lacks_room(answer) {
         put_counted(player);
         return;
     }

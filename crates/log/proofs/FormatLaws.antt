@@ -1,5 +1,6 @@
 -- One law for each kind of record, and for each way out of the recorder's functions. Assumes nothing.
-use mathlib.Core.Path.{_≡_}
+use mathlib.Core.Path.{_≡_, sym, ap, _∙_}
+use mathlib.Core.Bool.{true, false}
 use mathlib.Core.List.{List, [], _∷_}
 use Prim.Native.Nat.{ℕ, _≤_, _<_}
 use native.Mathlib.Omega.{arith}
@@ -18,7 +19,8 @@ use Rattle.model.specs.Answers.{refusalOf}
 use Rattle.log.specs.declared.Record.{Record}
 use Rattle.log.specs.declared.Record.the-variants.{Event, Line, ConfigWrite, BarWrite, Reset}
 use Rattle.log.specs.Logs.{sizeOf, recordIn, bytesIn}
-use Rattle.log.specs.Recorder.{isKept, logged, appended}
+use Rattle.log.specs.Plays.{lacksRoom}
+use Rattle.log.specs.Recorder.{Appended, isKept, logged, appended}
 
 -- what is no kind
 pub no-kind : (k : ℕ) → (k ≡ 1 → ⊥) → (k ≡ 2 → ⊥) → (k ≡ 3 → ⊥) → (k ≡ 4 → ⊥) → (k ≡ 5 → ⊥) → 0 ≡ sizeOf k
@@ -81,15 +83,19 @@ pub append-none : (out : List ℕ) → record { answer = Done; count = 0; output
 unfolding appended
 append-none out = rw (le-ltb (length out) 0 (omega arith))
 
+-- the bytes of a record were appended: b are those of r′, which is r
+pub append-record : (r r′ : Record) → r ≡ r′ → (b out : List ℕ) → b ≡ bytesIn r′ → (x : Appended) → x ≡ appended b out → x ≡ appended (bytesIn r) out
+append-record r r′ e b out f x h = h ∙ ap (λ (l : List ℕ). appended l out) (f ∙ ap bytesIn (sym e))
+
 -- ---- which calls are recorded
 
-pub kept-is : (r : Record) (a : Answer) → (refusalOf a ≡ 6 → ⊥) → bytesIn r ≡ logged r a
+pub kept-is : (r : Record) (a : Answer) → lacksRoom a ≡ false → bytesIn r ≡ logged r a
 unfolding logged isKept
-kept-is r a n = rw (ne-eqb (refusalOf a) 6 n)
+kept-is r a e = rw e
 
-pub six-is : (r : Record) (a : Answer) → refusalOf a ≡ 6 → [] ≡ logged r a
+pub six-is : (r : Record) (a : Answer) → lacksRoom a ≡ true → [] ≡ logged r a
 unfolding logged isKept
-six-is r a e = rw (eq-eqb (refusalOf a) 6 e)
+six-is r a e = rw e
 
 -- ---- an answer taken apart
 

@@ -13,7 +13,7 @@ use Rattle.log.specs.declared.Stage.the-variants.{Header, Records, Again
 use Rattle.log.specs.declared.Scanned.{Scanned}
 use Rattle.log.specs.declared.Advanced.{Advanced}
 use Rattle.log.specs.Players.{playerOf, between, counted, advancedOf, stopped, scan, scanned, resumed, advanced, isPlaying}
-use Rattle.log.specs.Plays.{triesAgain, onward}
+use Rattle.log.specs.Plays.{lacksRoom, onward}
 
 pub counted-last : (n : ℕ) → n ≡ 18446744073709551615 → n ≡ counted n
 unfolding counted
@@ -23,11 +23,11 @@ pub counted-next : (n : ℕ) → n < 18446744073709551616 → (n ≡ 18446744073
 unfolding counted
 counted-next n h e = rw (add-one n, lt-ltb (suc n) 18446744073709551616 (omega (arith, h, e)))
 
-pub onward-again : (p : Player) (a : Answer) → triesAgain a ≡ true → playerOf Again (p .taken) (p .part) (p .number) ≡ onward p a
+pub onward-again : (p : Player) (a : Answer) → lacksRoom a ≡ true → playerOf Again (p .taken) (p .part) (p .number) ≡ onward p a
 unfolding onward
 onward-again p a e = rw e
 
-pub onward-next : (p : Player) (a : Answer) → triesAgain a ≡ false → between (p .number) ≡ onward p a
+pub onward-next : (p : Player) (a : Answer) → lacksRoom a ≡ false → between (p .number) ≡ onward p a
 unfolding onward
 onward-next p a e = rw e
 

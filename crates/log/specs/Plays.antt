@@ -32,12 +32,13 @@ abbrev pub worldBy : {W : Type 0} → Option (Performed W) → W → W
 worldBy none w = w
 worldBy (some r) w = r .world
 
--- "The card's own refusals are noted and play goes on, except 6": then the same record is to be tried again
-abbrev pub triesAgain : Answer → Bool
-triesAgain a = eqb (refusalOf a) 6
+-- 6: the output had too little room, and nothing was done
+abbrev pub lacksRoom : Answer → Bool
+lacksRoom a = eqb (refusalOf a) 6
 
+-- "The card's own refusals are noted and play goes on, except 6": then the same record is to be tried again
 unfoldable pub onward : Player → Answer → Player
-onward p a = cond (triesAgain a) (playerOf Again (p .taken) (p .part) (p .number)) (between (p .number))
+onward p a = cond (lacksRoom a) (playerOf Again (p .taken) (p .part) (p .number)) (between (p .number))
 
 -- ---- one call: the record that is due is performed
 

@@ -4,13 +4,14 @@ ghost use mathlib.Core.Bool.{true};
 ghost use Rattle.log.specs.declared.Stage.the-variants.{Records};
 ghost use Rattle.log.specs.Logs.{recordIn};
 ghost use Rattle.log.specs.Players.{playerOf, between, isPlaying, counted, advancedOf, stopped, scanned, advanced};
-ghost use Rattle.log.specs.Plays.{triesAgain, onward};
+ghost use Rattle.log.specs.Plays.{onward};
 use crate::Advanced;
 use crate::End;
 use crate::Player;
 use crate::Record;
 use crate::Scanned;
 use crate::Stage;
+use crate::answer::lacks_room;
 use crate::format::record_in;
 use crate::format::size_of;
 use crate::scan::fits_later;
@@ -141,21 +142,11 @@ pub fn held_record(player: Player) -> Record
     record_in(&part)
 }
 
-// Whether a record that was answered so is to be tried again: after 6 it is.
-pub fn tries_again(answer: Answer) -> bool
-    ensures { λ r. ⌜ r ≡ triesAgain answer ⌝ }
-{
-    let Answer::Refused(number) = answer else {
-        return false;
-    };
-    number == 6
-}
-
-// After the record's call: it is tried again, or the next record follows.
+// After the record's call: after 6 it is to be tried again, else the next record follows.
 pub fn onward(player: Player, answer: Answer) -> Player
     ensures { λ r. ⌜ r ≡ onward player answer ⌝ }
 {
-    if !tries_again(answer) {
+    if !lacks_room(answer) {
         return between(player.number);
     }
     let part = player.part;

@@ -1,5 +1,6 @@
 // Logs of calls: their records, a player's state, and the recorder. No card is used here. What the types mean is defined in specs/.
 pub mod advance; // what a call of a player takes
+pub mod answer; // what a record's call was answered with
 pub mod format; // the bytes of a record
 pub mod recorder; // records appended
 pub mod scan; // bytes taken one by one

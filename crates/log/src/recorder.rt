@@ -4,6 +4,7 @@ ghost use Rattle.log.specs.declared.Record.the-variants.{Event, Line, Co
 ghost use Rattle.log.specs.Logs.{header, bytesIn};
 ghost use Rattle.log.specs.Recorder.{logged, appended, appendedTo};
 use crate::Record;
+use crate::answer::lacks_room;
 use crate::scan::HEADER;
 use model::Answer;
 
@@ -133,14 +134,11 @@ fn put_record(call: Record, out: &mut [u8]) -> Logged
 pub fn record(call: Record, answer: Answer, out: &mut [u8]) -> Logged
     ensures { λ r. ⌜ appendedTo r (now (out .exit)) ≡ appended (logged call answer) (now (out .entry)) ⌝ }
 {
-    let Answer::Refused(number) = answer else {
-        return put_record(call, out);
-    };
-    if number != 6 {
-        return put_record(call, out);
+    if lacks_room(answer) {
+        return Logged {
+            answer: Answer::Done,
+            count: 0,
+        };
     }
-    Logged {
-        answer: Answer::Done,
-        count: 0,
-    }
+    put_record(call, out)
 }

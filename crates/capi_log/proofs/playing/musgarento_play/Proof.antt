@@ -12,8 +12,9 @@ use Rattle.capi_log.proofs.playing.musgarento_play.Tie as tie
 -- where the function begins, seen from the test of the card's bytes
 abbrev start : tie.After-is-card → tie.Start
 start c =
-    let at-player = c .before .before .before in
-    at-player .before .before .before .before .before
+    let at-out = c .before .before in
+    let at-pending = at-out .before .before .before in
+    at-pending .before .before .before
 
 -- the bytes are a card's
 is-card : (c : tie.Else1) → isCard (now (start (c .before) .args .card)) ≡ true
@@ -49,8 +50,12 @@ take-turn-requires c κs =
 
 returns-3 : tie.Need-returns-3
 returns-3 c =
-    let at-out = c .before .before .before .before .before in
-    let at-card = at-out .before .before .before .before .before .before .before .before in
+    let at-tell = c .before .before .before in
+    let at-out = at-tell .before .before in
+    let at-player = at-out .before .before in
+    let at-pending = at-player .before .before in
+    let at-table = at-pending .before .before in
+    let at-card = at-table .before .before in
     let at-turn = at-card .before in
     let at-if2 = second at-turn in
     told _ _ _ _ _ _ (is-card (first at-if2)) (is-player at-if2) _ (at-turn .take-turn .ensures) _ _ _ (c .tell .ensures)

@@ -24,7 +24,7 @@ returns c =
     let at-test = at-if .before in
     let start = at-test .before .before .before in
     at-put-counted .put-counted .ensures
-    ∙ after-counted _ _ (start .pre .1) (start .pre .0) _ (sym (at-test .tries-again .ensures) ∙ not-true _ (at-if .if1 .taken))
+    ∙ after-counted _ _ (start .pre .1) (start .pre .0) _ (sym (at-test .lacks-room .ensures) ∙ not-true _ (at-if .if1 .taken))
 
 returns-2 : tie.Need-returns-2
 returns-2 c =

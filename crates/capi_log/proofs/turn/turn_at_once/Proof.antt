@@ -10,8 +10,9 @@ use Rattle.capi_log.proofs.turn.turn_at_once.Tie as tie
 -- where the function begins, seen from where the record is read
 abbrev start : tie.After-perform-arg3 → tie.Start
 start c =
-    let at-known = c .before .before .before in
-    at-known .before .before .before .before .before .before
+    let at-out = c .before .before .before in
+    let at-pending = at-out .before .before .before in
+    at-pending .before .before .before
 
 -- a record stands whole there
 stands : (c : tie.Start) → atOnce (now (c .args .player)) (now (c .args .log)) ≡ 0 → ⊥
@@ -21,7 +22,9 @@ stands c e = c .pre .3 (c .pre .2 ∙ e)
 abbrev performed : tie.After-put-after-arg → tie.After-perform
 performed c =
     let at-out = c .before .before in
-    let at-card = at-out .before .before .before .before .before .before in
+    let at-pending = at-out .before .before in
+    let at-table = at-pending .before .before in
+    let at-card = at-table .before .before in
     at-card .before
 
 abbrev at-record : tie.After-perform → tie.After-record-in

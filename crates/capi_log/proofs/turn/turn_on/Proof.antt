@@ -9,7 +9,9 @@ returns c =
     let at-put-player = c .before .before in
     let at-next = at-put-player .before .before in
     let at-out = at-next .before .before in
-    let at-card = at-out .before .before .before .before .before .before in
+    let at-pending = at-out .before .before in
+    let at-table = at-pending .before .before in
+    let at-card = at-table .before .before in
     let at-play = at-card .before in
     let at-player-of = at-play .before .before .before in
     turned-on _ _ _ _ _ _ _ (at-player-of .player-of .ensures) _ (at-play .play .ensures) _ (at-put-player .put-player .ensures)

@@ -40,7 +40,8 @@ unfolding callOf
 returns-4 c =
     let at-finish = c .before .before in
     let at-out = at-finish .before .before .before .before in
-    let at-bar-write = at-out .before .before .before .before .before in
+    let at-pending = at-out .before .before in
+    let at-bar-write = at-pending .before .before .before in
     let at-card-of = at-bar-write .before .before .before .before in
     let at-call = at-card-of .before .before .before in
     performed-by _ _ _ _ _ _ (at-call .call4 .given .1) _ (at-card-of .card-of4 .ensures) _ _ _ _ (at-bar-write .bar-write .ensures) _ _ _ (at-finish .finish4 .ensures)
@@ -50,7 +51,8 @@ unfolding callOf
 returns-5 c =
     let at-finish = c .before .before in
     let at-out = at-finish .before .before .before .before in
-    let at-reset = at-out .before .before .before .before .before in
+    let at-pending = at-out .before .before in
+    let at-reset = at-pending .before .before .before in
     let at-card-of = at-reset .before .before .before .before in
     let at-call = at-card-of .before .before in
     performed-by _ _ _ _ _ _ (at-call .enum-told .given .1) _ (at-card-of .card-of5 .ensures) _ _ _ _ (at-reset .reset .ensures) _ _ _ (at-finish .finish5 .ensures)

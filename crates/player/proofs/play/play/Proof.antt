@@ -12,8 +12,13 @@ returns c =
 
 returns-2 : tie.Need-returns-2
 returns-2 c =
-    let at-perform = c .before .before .before .before .before .before .before .before .before in
-    let at-record = at-perform .before .before .before .before .before .before in
+    let at-out = c .before .before in
+    let at-pending = at-out .before .before in
+    let at-table = at-pending .before .before in
+    let at-card = at-table .before .before in
+    let at-perform = at-card .before in
+    let at-lent = at-perform .before .before .before in
+    let at-record = at-lent .before .before .before in
     let at-if = at-record .before in
     let at-advance = at-if .before .before .before in
     rw (c .onward .ensures)
