@@ -9,12 +9,9 @@ use borrow.Author.Tests.{eq-eqb, ne-eqb, eqb-true}
 use Rattle.words.specs.Lists.{firstOf}
 use Rattle.words.specs.Bytes.{byte}
 use Rattle.words.proofs.BoolLaws.{both}
-use Rattle.model.specs.World.{worldOf}
-use Rattle.model.specs.Image.{cardIn}
 use Rattle.model.specs.Calls.{Call, call, reset}
-use Rattle.player.specs.Plays.{playCall}
 use Rattle.capi.specs.Crossing.{unread}
-use Rattle.capi_log.specs.Crossing.{isCard, isPlayer, playerIn, Crossed, handed, back, played}
+use Rattle.capi_log.specs.Crossing.{isCard, isPlayer, Crossed, handed, calledOn, played}
 
 -- ---- the bytes of a card, and of a player
 
@@ -56,14 +53,13 @@ module _ (card table pending player log out : List ℕ) where
   unfolding played
   no-player c e = rw (c, e)
 
-  pub through : isCard card ≡ true → isPlayer player ≡ true → back card (playCall (playerIn player) (worldOf (cardIn card) table pending) log out)
-      ≡ played card table pending player log out
+  pub through : isCard card ≡ true → isPlayer player ≡ true → calledOn card table pending player log out ≡ played card table pending player log out
   unfolding played
   through c e = rw (c, e)
 
   -- x is what a call on those bytes gave, and e, r and a are the numbers of its record's end
   pub told : isCard card ≡ true → isPlayer player ≡ true
-      → (x : Crossed) → x ≡ back card (playCall (playerIn player) (worldOf (cardIn card) table pending) log out)
+      → (x : Crossed) → x ≡ calledOn card table pending player log out
       → (e r a : ℕ) → (e ≡ x .ended) × (r ≡ x .refusal) × (a ≡ x .answer)
       → handed (x .returned) (x .card) (x .table) (x .pending) (x .player) (x .output) (x .taken) e r a (x .count) ≡ played card table pending player log out
   told c p x q e r a h =

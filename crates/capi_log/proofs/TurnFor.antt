@@ -21,7 +21,7 @@ use Rattle.log.proofs.PlayerLaws.{onward-next}
 use Rattle.log.proofs.WholeLaws.{DueWhole, whole-room, takes-whole}
 use Rattle.player.specs.Plays.{Gave, performed, Left, leftBy, playCall}
 use Rattle.player.proofs.PlayLaws.{left-due}
-use Rattle.capi_log.specs.Crossing.{playerIn, playerBytes, isBetween, atOnce, handed, endedCode, refusalIn, answerIn, across, back}
+use Rattle.capi_log.specs.Crossing.{playerIn, playerBytes, isBetween, atOnce, handed, endedCode, refusalIn, answerIn, across, calledOn}
 use Rattle.capi_log.proofs.BetweenFor.{player-between}
 
 -- ---- a record that stands whole in the log of a player between two records
@@ -62,7 +62,7 @@ module _ (player log : List ℕ) where
       pub turned-at-once : (card t q out : List ℕ) (size : ℕ) → size ≡ atOnce player log → (r : Record) → r ≡ recordIn log
           → (g : Gave) → g ≡ performed card t q r out → (player′ : List ℕ) → player′ ≡ playerBytes (onward (next .player) (g .answer))
           → handed 0 (g .card) (g .table) (g .pending) player′ (g .output) size 1 (refusalOf (g .answer)) (eventCode (g .answer)) (g .count)
-          ≡ back card (playCall (playerIn player) (worldOf (cardIn card) t q) log out)
+          ≡ calledOn card t q player log out
       turned-at-once card t q out size f r is g h player′ e =
           let taken : size ≡ next .taken = f ∙ sym (in-between at-once-between) ∙ sym (at-once-due .taken) in
           (λ i. handed 0 (g .card) (g .table) (g .pending) (e i) (g .output) (taken i) 1 (refusalOf (g .answer)) (eventCode (g .answer)) (g .count))
@@ -73,7 +73,7 @@ module _ (player log : List ℕ) where
 pub turned-on : (card t q player log out : List ℕ) (p : Player) → p ≡ playerIn player
     → (x : Left) → x ≡ leftBy card (playCall p (worldOf (cardIn card) t q) log out) → (player′ : List ℕ) → player′ ≡ playerBytes (x .player)
     → handed (x .refusal) (x .card) (x .table) (x .pending) player′ (x .output) (x .taken) (endedCode (x .ended)) (refusalIn (x .ended)) (answerIn (x .ended))
-    (x .count) ≡ back card (playCall (playerIn player) (worldOf (cardIn card) t q) log out)
+    (x .count) ≡ calledOn card t q player log out
 turned-on card t q player log out p f x h player′ e =
     (λ i. handed (x .refusal) (x .card) (x .table) (x .pending) (e i) (x .output) (x .taken) (endedCode (x .ended)) (refusalIn (x .ended)) (answerIn (x .ended))
     (x .count))

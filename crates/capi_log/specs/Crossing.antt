@@ -16,6 +16,7 @@ use Rattle.log.specs.Scanning.{wholeIn}
 use Rattle.player.specs.declared.play.Ended.{Ended}
 use Rattle.player.specs.declared.play.Ended.the-variants.{Nothing, With}
 use Rattle.player.specs.Plays.{Heard, playCall, Left, leftBy}
+use Rattle.capi_log.specs.declared.turn.Turn.{Turn}
 
 -- ---- a player as bytes: stage, bytes taken, the 15 bytes of a record, the number of complete records, low byte first
 
@@ -105,9 +106,18 @@ across x =
 abbrev pub back : (card : List ℕ) → Heard → Crossed
 back card h = across (leftBy card h)
 
--- 60 where the bytes are no card's or no player's, and nothing changes; else the call of the player that they hold, on the card that they hold
+-- the call of the player that the bytes hold, on the card that they hold
+abbrev pub calledOn : (card table pending player log out : List ℕ) → Crossed
+calledOn card table pending player log out = back card (playCall (playerIn player) (worldOf (cardIn card) table pending) log out)
+
+-- 60 where the bytes are no card's or no player's, and nothing changes; else that call
 unfoldable pub played : (card table pending player log out : List ℕ) → Crossed
 played card table pending player log out =
     cond (isCard card && isPlayer player)
-    (back card (playCall (playerIn player) (worldOf (cardIn card) table pending) log out))
+    (calledOn card table pending player log out)
     (handed 60 card table pending player out 0 0 0 0 0)
+
+-- a result of the code with the later contents of each buffer
+abbrev pub turned : Turn → (card table pending player output : List ℕ) → (count : ℕ) → Crossed
+turned r card table pending player output count =
+    handed (r .refusal) card table pending player output (r .taken) (endedCode (r .ended)) (refusalIn (r .ended)) (answerIn (r .ended)) count

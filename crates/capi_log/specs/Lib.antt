@@ -1,4 +1,3 @@
 pub mod Crossing
-pub mod Turns
 pub mod Recording
 pub mod Interface

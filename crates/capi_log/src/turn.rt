@@ -1,15 +1,9 @@
 // A call of a player, on the bytes of the card and of the player.
 ghost use mathlib.Core.Path.{_≡_};
-ghost use mathlib.Core.Bool.{true};
 ghost use lib.ListN.{length};
-ghost use Rattle.model.specs.World.{worldOf};
-ghost use Rattle.model.specs.Image.{cardIn};
-ghost use Rattle.log.specs.Scanning.{wholeIn};
 ghost use Rattle.log.specs.Players.{advanced};
 ghost use Rattle.log.specs.Plays.{onward};
-ghost use Rattle.player.specs.Plays.{playCall};
-ghost use Rattle.capi_log.specs.Crossing.{playerIn, playerBytes, isBetween, atOnce, back};
-ghost use Rattle.capi_log.specs.Turns.{turned};
+ghost use Rattle.capi_log.specs.Crossing.{playerIn, playerBytes, atOnce, calledOn, turned};
 use crate::bytes::is_between;
 use crate::bytes::player_of;
 use crate::bytes::put_counted;
@@ -69,8 +63,7 @@ fn turn_at_once(
 ) -> Turn
     requires { ⌜ (length (now card) ≡ 289) × (length (now player) ≡ 25) × (size ≡ atOnce (now player) (now log)) × (size ≡ 0 → ⊥) ⌝ }
     ensures { λ r. ⌜ turned r (now (card .exit)) (now (table .exit)) (now (pending .exit)) (now (player .exit)) (now (out .exit)) (now (count .exit))
-        ≡ back (now (card .entry)) (playCall (playerIn (now (player .entry))) (worldOf (cardIn (now (card .entry))) (now (table .entry)) (now (pending .entry)))
-        (now (log .entry)) (now (out .entry))) ⌝ }
+        ≡ calledOn (now (card .entry)) (now (table .entry)) (now (pending .entry)) (now (player .entry)) (now (log .entry)) (now (out .entry)) ⌝ }
 {
     let answer = perform(card, table, pending, record_in(log), out, count);
     put_after(player, log, answer);
@@ -93,8 +86,7 @@ fn turn_on(
 ) -> Turn
     requires { ⌜ (length (now card) ≡ 289) × (length (now player) ≡ 25) ⌝ }
     ensures { λ r. ⌜ turned r (now (card .exit)) (now (table .exit)) (now (pending .exit)) (now (player .exit)) (now (out .exit)) (now (count .exit))
-        ≡ back (now (card .entry)) (playCall (playerIn (now (player .entry))) (worldOf (cardIn (now (card .entry))) (now (table .entry)) (now (pending .entry)))
-        (now (log .entry)) (now (out .entry))) ⌝ }
+        ≡ calledOn (now (card .entry)) (now (table .entry)) (now (pending .entry)) (now (player .entry)) (now (log .entry)) (now (out .entry)) ⌝ }
 {
     let played = play(card, table, pending, player_of(player), log, out, count);
     let next = played.player;
@@ -118,8 +110,7 @@ pub fn take_turn(
 ) -> Turn
     requires { ⌜ (length (now card) ≡ 289) × (length (now player) ≡ 25) ⌝ }
     ensures { λ r. ⌜ turned r (now (card .exit)) (now (table .exit)) (now (pending .exit)) (now (player .exit)) (now (out .exit)) (now (count .exit))
-        ≡ back (now (card .entry)) (playCall (playerIn (now (player .entry))) (worldOf (cardIn (now (card .entry))) (now (table .entry)) (now (pending .entry)))
-        (now (log .entry)) (now (out .entry))) ⌝ }
+        ≡ calledOn (now (card .entry)) (now (table .entry)) (now (pending .entry)) (now (player .entry)) (now (log .entry)) (now (out .entry)) ⌝ }
 {
     let size = at_once(player, log);
     if size == 0 {
