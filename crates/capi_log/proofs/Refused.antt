@@ -17,8 +17,8 @@ use Rattle.log.specs.Players.{isPlaying}
 use Rattle.log.specs.Plays.{Performed, Played, playOf}
 use Rattle.log.specs.Cards.{onCard}
 use Rattle.log.proofs.OneCall.{play-refused, stands}
-use Rattle.player.specs.Plays.{heardOf, endedBy, packets, playCall, cardAfter}
-use Rattle.capi_log.specs.Crossing.{isCard, isPlayer, playerIn, playerBytes, Crossed, handed, endedCode, refusalIn, answerIn, back, played}
+use Rattle.player.specs.Plays.{heardOf, endedBy, packets, playCall}
+use Rattle.capi_log.specs.Crossing.{isCard, isPlayer, playerIn, playerBytes, Crossed, handed, endedCode, refusalIn, answerIn, cardAfter, back, played}
 use Rattle.capi_log.proofs.CrossingFor.{through}
 use Rattle.capi_log.proofs.BytesExact.{player-kept}
 

@@ -6,16 +6,17 @@ use lib.Dec.{ltb, eqb}
 use lib.ListN.{length}
 use Rattle.words.specs.Bytes.{byte, part, word16, word64, bytesOf}
 use Rattle.model.specs.Answers.{refusalOf, eventCode}
-use Rattle.model.specs.World.{worldOf}
+use Rattle.model.specs.World.{World, worldOf}
 use Rattle.model.specs.Image.{cardIn}
 use Rattle.log.specs.declared.Stage.{Stage}
 use Rattle.log.specs.declared.Stage.the-variants.{Header, Records, Again, Broken}
 use Rattle.log.specs.declared.Player.{Player}
 use Rattle.log.specs.Players.{playerOf}
 use Rattle.log.specs.Scanning.{wholeIn}
-use Rattle.player.specs.declared.play.Ended.{Ended}
-use Rattle.player.specs.declared.play.Ended.the-variants.{Nothing, With}
-use Rattle.player.specs.Plays.{Heard, playCall, Left, leftBy}
+use Rattle.player.specs.declared.Ended.{Ended}
+use Rattle.player.specs.declared.Ended.the-variants.{Nothing, With}
+use Rattle.player.specs.Plays.{Heard, playCall}
+use Rattle.capi.specs.Crossing.{cardOver}
 use Rattle.capi_log.specs.declared.turn.Turn.{Turn}
 
 -- ---- a player as bytes: stage, bytes taken, the 15 bytes of a record, the number of complete records, low byte first
@@ -97,14 +98,15 @@ abbrev pub answerIn : Ended → ℕ
 answerIn Nothing = 0
 answerIn (With answer) = eventCode answer
 
--- what a call leaves, its player as bytes and its record's end as numbers
-abbrev pub across : Left → Crossed
-across x =
-    handed (x .refusal) (x .card) (x .table) (x .pending) (playerBytes (x .player)) (x .output) (x .taken) (endedCode (x .ended)) (refusalIn (x .ended))
-    (answerIn (x .ended)) (x .count)
+-- the bytes of the card: they stay where no call was made, and beside a refusal
+abbrev pub cardAfter : List ℕ → Ended → World → List ℕ
+cardAfter card Nothing w = card
+cardAfter card (With answer) w = cardOver (refusalOf answer) card w
 
 abbrev pub back : (card : List ℕ) → Heard → Crossed
-back card h = across (leftBy card h)
+back card h =
+    handed (h .refusal) (cardAfter card (h .ended) (h .world)) (h .world .endpoint .table) (h .world .endpoint .pending) (playerBytes (h .player))
+    (h .output) (h .taken) (endedCode (h .ended)) (refusalIn (h .ended)) (answerIn (h .ended)) (h .count)
 
 -- the call of the player that the bytes hold, on the card that they hold
 abbrev pub calledOn : (card table pending player log out : List ℕ) → Crossed

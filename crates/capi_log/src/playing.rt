@@ -4,7 +4,7 @@ ghost use Rattle.capi_log.specs.Crossing.{handed, endedCode, refusalIn, 
 use crate::bytes::is_card;
 use crate::bytes::is_player;
 use crate::turn::take_turn;
-use player::play::Ended;
+use player::Ended;
 
 // What became of a record as numbers: 1 if its call was made, its refusal, and what became of an event; each 0 where there is none.
 fn tell(made: Ended, ended: &mut u8, refusal: &mut u8, answer: &mut u8)

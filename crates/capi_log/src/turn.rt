@@ -3,26 +3,38 @@ ghost use mathlib.Core.Path.{_≡_};
 ghost use lib.ListN.{length};
 ghost use Rattle.log.specs.Players.{advanced};
 ghost use Rattle.log.specs.Plays.{onward};
+ghost use Rattle.player.specs.declared.Ended.the-variants.{With};
 ghost use Rattle.capi_log.specs.Crossing.{playerIn, playerBytes, atOnce, calledOn, turned};
 use crate::bytes::is_between;
 use crate::bytes::player_of;
 use crate::bytes::put_counted;
 use crate::bytes::put_player;
 use log::advance::advance;
+use log::advance::held_record;
 use log::advance::onward;
 use log::answer::lacks_room;
 use log::format::record_in;
 use log::whole::whole_in;
 use model::Answer;
+use player::Ended;
 use player::perform::perform;
-use player::play::Ended;
-use player::play::play;
 
 // What a call hands back beside the bytes: how many bytes of the log it took, 0 or 30, and what became of the record.
 pub struct Turn {
     pub taken: usize,
     pub refusal: u8,
     pub ended: Ended,
+}
+
+// A record was performed.
+fn done(taken: usize, answer: Answer) -> Turn
+    ensures { λ r. ⌜ r ≡ record { taken = taken; refusal = 0; ended = With answer } ⌝ }
+{
+    Turn {
+        taken,
+        refusal: 0,
+        ended: Ended::With(answer),
+    }
 }
 
 // How many bytes the record has that stands whole in the log, where the player is between two records; else 0.
@@ -46,59 +58,11 @@ fn put_after(player: &mut [u8], log: &[u8], answer: Answer)
         return;
     }
     let next = advance(player_of(player), log);
-    let held = next.player;
-    put_player(player, onward(held, answer));
+    let kept = next.player;
+    put_player(player, onward(kept, answer));
 }
 
-// That record is read where it stands.
-fn turn_at_once(
-    card: &mut [u8],
-    table: &mut [u8],
-    pending: &mut [u8],
-    player: &mut [u8],
-    log: &[u8],
-    out: &mut [u8],
-    count: &mut usize,
-    size: usize,
-) -> Turn
-    requires { ⌜ (length (now card) ≡ 289) × (length (now player) ≡ 25) × (size ≡ atOnce (now player) (now log)) × (size ≡ 0 → ⊥) ⌝ }
-    ensures { λ r. ⌜ turned r (now (card .exit)) (now (table .exit)) (now (pending .exit)) (now (player .exit)) (now (out .exit)) (now (count .exit))
-        ≡ calledOn (now (card .entry)) (now (table .entry)) (now (pending .entry)) (now (player .entry)) (now (log .entry)) (now (out .entry)) ⌝ }
-{
-    let answer = perform(card, table, pending, record_in(log), out, count);
-    put_after(player, log, answer);
-    Turn {
-        taken: size,
-        refusal: 0,
-        ended: Ended::With(answer),
-    }
-}
-
-// Any other call.
-fn turn_on(
-    card: &mut [u8],
-    table: &mut [u8],
-    pending: &mut [u8],
-    player: &mut [u8],
-    log: &[u8],
-    out: &mut [u8],
-    count: &mut usize,
-) -> Turn
-    requires { ⌜ (length (now card) ≡ 289) × (length (now player) ≡ 25) ⌝ }
-    ensures { λ r. ⌜ turned r (now (card .exit)) (now (table .exit)) (now (pending .exit)) (now (player .exit)) (now (out .exit)) (now (count .exit))
-        ≡ calledOn (now (card .entry)) (now (table .entry)) (now (pending .entry)) (now (player .entry)) (now (log .entry)) (now (out .entry)) ⌝ }
-{
-    let played = play(card, table, pending, player_of(player), log, out, count);
-    let next = played.player;
-    put_player(player, next);
-    let ended = played.ended;
-    Turn {
-        taken: played.taken,
-        refusal: played.refusal,
-        ended,
-    }
-}
-
+// One call: a record that stands whole in the log is read there, any other as the player takes it.
 pub fn take_turn(
     card: &mut [u8],
     table: &mut [u8],
@@ -112,9 +76,24 @@ pub fn take_turn(
     ensures { λ r. ⌜ turned r (now (card .exit)) (now (table .exit)) (now (pending .exit)) (now (player .exit)) (now (out .exit)) (now (count .exit))
         ≡ calledOn (now (card .entry)) (now (table .entry)) (now (pending .entry)) (now (player .entry)) (now (log .entry)) (now (out .entry)) ⌝ }
 {
+    *count = 0;
     let size = at_once(player, log);
-    if size == 0 {
-        return turn_on(card, table, pending, player, log, out, count);
+    if size != 0 {
+        let answer = perform(card, table, pending, record_in(log), out, count);
+        put_after(player, log, answer);
+        return done(size, answer);
     }
-    turn_at_once(card, table, pending, player, log, out, count, size)
+    let next = advance(player_of(player), log);
+    let held = next.player;
+    if !next.due {
+        put_player(player, held);
+        return Turn {
+            taken: next.taken,
+            refusal: next.refusal,
+            ended: Ended::Nothing,
+        };
+    }
+    let answer = perform(card, table, pending, held_record(held), out, count);
+    put_player(player, onward(held, answer));
+    done(next.taken, answer)
 }

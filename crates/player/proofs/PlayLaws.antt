@@ -6,8 +6,7 @@ use Prim.Native.Nat.{ℕ}
 use lib.ListN.{length, drop}
 use lib.Seq.{take-append-seam}
 use Rattle.words.specs.Writers.{over}
-use Rattle.model.specs.World.{World, worldOf}
-use Rattle.model.specs.Image.{cardIn}
+use Rattle.model.specs.World.{World}
 use Rattle.model.specs.Calls.{Call, Outcome, accepted, answerOf, next, outputOf, sends, step}
 use Rattle.model.specs.Trials.{wroteBytes}
 use Rattle.model.proofs.Calls.CallLaws.{step-elim}
@@ -19,8 +18,8 @@ use Rattle.log.specs.Players.{advanced}
 use Rattle.log.specs.Plays.{Performed, Played, onward, tried, idle, made, playOf}
 use Rattle.log.specs.Cards.{onCard}
 use Rattle.log.proofs.Room.{lends}
-use Rattle.player.specs.declared.play.Ended.the-variants.{Nothing, With}
-use Rattle.player.specs.Plays.{Heard, heardOf, playCall, Gave, performed, Left, leftBy}
+use Rattle.player.specs.declared.Ended.the-variants.{Nothing, With}
+use Rattle.player.specs.Plays.{Heard, heardOf, playCall}
 
 -- ---- what a call writes stands at the start of its output
 
@@ -93,35 +92,3 @@ module _ (p : Player) (w : World) (l out : List ℕ) where
       })
       ∙ ap (λ (r : Played World). heardOf r out) (sym (made-due (onCard out) a w d))
       ∙ by-advance a e
-
--- ---- on a card's bytes
-
-module _ (p : Player) (card t q l out : List ℕ) where
-  abbrev w : World
-  w = worldOf (cardIn card) t q
-
-  -- no record is due: the bytes stay
-  pub left-idle : (a : Advanced) → a ≡ advanced p l → a .due ≡ false
-      → record { player = a .player; card = card; table = t; pending = q; taken = a .taken; refusal = a .refusal; ended = Nothing; count = 0; output = out }
-      ≡ leftBy card (playCall p w l out)
-  left-idle a e d = ap (leftBy card) (play-idle p w l out a e d)
-
-  -- the record that is due gave this
-  abbrev pub leftTo : Advanced → Gave → Left
-  leftTo a g = record {
-    player = onward (a .player) (g .answer);
-    card = g .card;
-    table = g .table;
-    pending = g .pending;
-    taken = a .taken;
-    refusal = 0;
-    ended = With (g .answer);
-    count = g .count;
-    output = g .output;
-  }
-
-  pub left-due : (a : Advanced) → a ≡ advanced p l → a .due ≡ true → (r : Record) → r ≡ recordIn (a .player .part)
-      → (g : Gave) → g ≡ performed card t q r out → leftTo a g ≡ leftBy card (playCall p w l out)
-  left-due a e d r is g f =
-      ap (leftTo a) (f ∙ ap (λ (k : Record). performed card t q k out) is)
-      ∙ ap (leftBy card) (play-due p w l out a e d (step w (callOf (recordIn (a .player .part)) out)) refl)

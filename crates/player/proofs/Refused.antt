@@ -11,7 +11,7 @@ use Rattle.log.specs.declared.Player.{Player}
 use Rattle.log.specs.Plays.{Performed, Played, playOf}
 use Rattle.log.specs.Cards.{onCard}
 use Rattle.log.proofs.OneCall.{play-refused}
-use Rattle.player.specs.declared.play.Ended.the-variants.{Nothing}
+use Rattle.player.specs.declared.Ended.the-variants.{Nothing}
 use Rattle.player.specs.Plays.{Heard, endedBy, packets, playCall}
 
 -- "Demand 1 takes all new refusals as 01's": everything as it was, and no record was performed

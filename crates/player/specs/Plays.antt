@@ -15,9 +15,8 @@ use Rattle.log.specs.declared.Record.{Record}
 use Rattle.log.specs.Logs.{callOf}
 use Rattle.log.specs.Plays as Plays
 use Rattle.log.specs.Cards.{onCard}
-use Rattle.player.specs.declared.play.Ended.{Ended}
-use Rattle.player.specs.declared.play.Ended.the-variants.{Nothing, With}
-use Rattle.player.specs.declared.play.Played.{Played}
+use Rattle.player.specs.declared.Ended.{Ended}
+use Rattle.player.specs.declared.Ended.the-variants.{Nothing, With}
 
 -- what a call gives: `ended` is the answer of its record, if it performed one; `count` bytes of the output are new
 pub record Heard : Type 0 where
@@ -74,49 +73,3 @@ gaveBy card o =
 
 abbrev pub performed : (card table pending : List ℕ) → Record → (out : List ℕ) → Gave
 performed card table pending r out = gaveBy card (step (worldOf (cardIn card) table pending) (callOf r out))
-
--- ---- a call of a player there
-
--- what it leaves: player, buffers and output, with the numbers that it hands back
-pub record Left : Type 0 where
-  pub player : Player
-  pub card : List ℕ
-  pub table : List ℕ
-  pub pending : List ℕ
-  pub taken : ℕ
-  pub refusal : ℕ
-  pub ended : Ended
-  pub count : ℕ
-  pub output : List ℕ
-
--- the bytes of the card: they stay where no call was made, and beside a refusal
-abbrev pub cardAfter : List ℕ → Ended → World → List ℕ
-cardAfter card Nothing w = card
-cardAfter card (With answer) w = cardOver (refusalOf answer) card w
-
-abbrev pub leftBy : (card : List ℕ) → Heard → Left
-leftBy card h = record {
-  player = h .player;
-  card = cardAfter card (h .ended) (h .world);
-  table = h .world .endpoint .table;
-  pending = h .world .endpoint .pending;
-  taken = h .taken;
-  refusal = h .refusal;
-  ended = h .ended;
-  count = h .count;
-  output = h .output;
-}
-
--- a result of the code with the later contents of each buffer
-abbrev pub left : Played → (card table pending output : List ℕ) → (count : ℕ) → Left
-left r card table pending output count = record {
-  player = r .player;
-  card = card;
-  table = table;
-  pending = pending;
-  taken = r .taken;
-  refusal = r .refusal;
-  ended = r .ended;
-  count = count;
-  output = output;
-}

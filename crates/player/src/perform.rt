@@ -6,9 +6,14 @@ ghost use Rattle.model.specs.Answers.{refusalOf};
 ghost use Rattle.model.specs.World.{worldOf};
 ghost use Rattle.capi.specs.Crossing.{cardOver};
 ghost use Rattle.player.specs.Plays.{gave, performed};
+use bar_access::bar_write::bar_write;
 use capi::bytes::hand_back;
 use card::outcome::Outcome;
+use config_access::config_write::config_write;
 use image::get::card_of;
+use interrupt::event::event;
+use interrupt::line::line;
+use lifecycle::reset::reset;
 use log::Record;
 use model::Answer;
 
@@ -36,13 +41,16 @@ pub fn perform(
     ensures { λ r. ⌜ gave r (now (card .exit)) (now (table .exit)) (now (pending .exit)) (now (out .exit)) (now (count .exit))
         ≡ performed (now (card .entry)) (now (table .entry)) (now (pending .entry)) call (now (out .entry)) ⌝ }
 {
+    // the card is read in each arm: read before the match, it would be copied once more
     match call {
         Record::Event(number) => {
-            let outcome = interrupt::event::event(card_of(card), table, pending, number, out);
+            let held = card_of(card);
+            let outcome = event(held, table, pending, number, out);
             finish(card, outcome, count)
         }
         Record::Line(level) => {
-            let outcome = interrupt::line::line(card_of(card), table, pending, level, out);
+            let held = card_of(card);
+            let outcome = line(held, table, pending, level, out);
             finish(card, outcome, count)
         }
         Record::ConfigWrite {
@@ -50,15 +58,8 @@ pub fn perform(
             width,
             value,
         } => {
-            let outcome = config_access::config_write::config_write(
-                card_of(card),
-                table,
-                pending,
-                offset,
-                width,
-                value,
-                out,
-            );
+            let held = card_of(card);
+            let outcome = config_write(held, table, pending, offset, width, value, out);
             finish(card, outcome, count)
         }
         Record::BarWrite {
@@ -67,20 +68,13 @@ pub fn perform(
             width,
             value,
         } => {
-            let outcome = bar_access::bar_write::bar_write(
-                card_of(card),
-                table,
-                pending,
-                bar,
-                offset,
-                width,
-                value,
-                out,
-            );
+            let held = card_of(card);
+            let outcome = bar_write(held, table, pending, bar, offset, width, value, out);
             finish(card, outcome, count)
         }
         Record::Reset => {
-            let outcome = lifecycle::reset::reset(card_of(card), table, pending, out);
+            let held = card_of(card);
+            let outcome = reset(held, table, pending, out);
             finish(card, outcome, count)
         }
     }
