@@ -1,5 +1,5 @@
 -- One law for each kind of record, and for each way out of the recorder's functions. Assumes nothing.
-use mathlib.Core.Path.{_≡_, sym, ap, _∙_}
+use mathlib.Core.Path.{_≡_, refl, sym, ap, _∙_}
 use mathlib.Core.Bool.{true, false}
 use mathlib.Core.List.{List, [], _∷_}
 use Prim.Native.Nat.{ℕ, _≤_, _<_}
@@ -21,6 +21,11 @@ use Rattle.log.specs.declared.Record.the-variants.{Event, Line, ConfigWr
 use Rattle.log.specs.Logs.{sizeOf, recordIn, bytesIn}
 use Rattle.log.specs.Plays.{lacksRoom}
 use Rattle.log.specs.Recorder.{Appended, isKept, logged, appended}
+
+-- how many bytes the kinds have
+pub sizes : (sizeOf 1 ≡ 3) × (sizeOf 2 ≡ 2) × (sizeOf 3 ≡ 8) × (sizeOf 4 ≡ 15) × (sizeOf 5 ≡ 1)
+unfolding sizeOf firstOf
+sizes = (refl, refl, refl, refl, refl)
 
 -- what is no kind
 pub no-kind : (k : ℕ) → (k ≡ 1 → ⊥) → (k ≡ 2 → ⊥) → (k ≡ 3 → ⊥) → (k ≡ 4 → ⊥) → (k ≡ 5 → ⊥) → 0 ≡ sizeOf k
@@ -48,24 +53,9 @@ module _ (l : List ℕ) where
   unfolding recordIn
   is-reset n1 n2 n3 n4 = rw (ne-eqb (byte l 0) 1 n1, ne-eqb (byte l 0) 2 n2, ne-eqb (byte l 0) 3 n3, ne-eqb (byte l 0) 4 n4)
 
-  -- ---- a slice that holds all of its record: room for the bytes of its kind
-
-  module _ (h : sizeOf (byte l 0) ≤ length l) where
-    pub event-room : byte l 0 ≡ 1 → 3 ≤ length l
-    unfolding sizeOf firstOf
-    event-room e = rw e at h
-
-    pub line-room : byte l 0 ≡ 2 → 2 ≤ length l
-    unfolding sizeOf firstOf
-    line-room e = rw e at h
-
-    pub config-room : byte l 0 ≡ 3 → 8 ≤ length l
-    unfolding sizeOf firstOf
-    config-room e = rw e at h
-
-    pub bar-room : byte l 0 ≡ 4 → 15 ≤ length l
-    unfolding sizeOf firstOf
-    bar-room e = rw e at h
+  -- a slice that holds all of its record has room for the bytes of its kind
+  pub kind-room : sizeOf (byte l 0) ≤ length l → (k : ℕ) → byte l 0 ≡ k → sizeOf k ≤ length l
+  kind-room h k e = rw e at h
 
 -- ---- appending
 

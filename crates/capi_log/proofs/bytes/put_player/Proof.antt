@@ -27,7 +27,9 @@ module _ (c : tie.After-slice-known2) where
   at-first = c .before .before
 
   abbrev start : tie.Start
-  start = let at-byte = at-first .before .before .before .before in at-byte .before .before .before
+  start =
+      let at-byte = at-first .before .before .before .before in
+      at-byte .before .before .before
 
   two : at-first .put-slice .result ≡ 2
   two = at-first .put-slice .ensures .count

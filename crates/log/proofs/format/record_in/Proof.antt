@@ -1,64 +1,41 @@
 -- A record of each kind, read where the room for its bytes is. Assumes nothing.
+use mathlib.Core.Path.{_≡_}
+use mathlib.Core.List.{List}
+use Prim.Native.Nat.{ℕ, _≤_}
 use native.Mathlib.Omega.{arith}
+use lib.ListN.{length}
 use denote.Ref.{now}
 use borrow.Author.Needs.{needs}
-use Rattle.log.proofs.FormatLaws.{is-event, is-line, is-config, is-bar, is-reset, event-room, line-room, config-room, bar-room}
+use Rattle.words.specs.Bytes.{byte}
+use Rattle.log.specs.Logs.{sizeOf}
+use Rattle.log.proofs.FormatLaws.{is-event, is-line, is-config, is-bar, is-reset, kind-room, sizes}
 use Rattle.log.proofs.format.record_in.Statement.{statement}
 use Rattle.log.proofs.format.record_in.Tie as tie
 
--- the slice holds all of its record, and room for 3, 2, 8 or 15 bytes
+-- where the function begins, seen from the kind, and the bytes that it is lent
+abbrev start : tie.After-shared-slice-known2 → tie.Start
+start c = c .before .before
 
-word16-requires : tie.Need-word16-requires
-word16-requires c κs =
-    let start = c .before .before .before in
-    omega (arith, event-room (now (start .args .part)) (start .pre .1) (c .match .keys1))
+abbrev lent : tie.After-shared-slice-known2 → List ℕ
+lent c = now (start c .args .part)
 
-slice-read-level : tie.Need-shared-slice-read-t8
-slice-read-level c =
-    let at-match = c .before in
-    let start = at-match .before .before .before in
-    omega (arith, line-room (now (start .args .part)) (start .pre .1) (at-match .match .keys2))
+-- they hold all of a record of this kind
+room : (c : tie.After-shared-slice-known2) (k : ℕ) → byte (lent c) 0 ≡ k → sizeOf k ≤ length (lent c)
+room c k e = kind-room (lent c) (start c .pre .1) k e
 
-word16-requires-2 : tie.Need-word16-requires-2
-word16-requires-2 c κs =
-    let start = c .before .before .before in
-    omega (arith, config-room (now (start .args .part)) (start .pre .1) (c .match .keys3))
+event-room : (c : tie.At-match-keys1) → 3 ≤ length (lent (c .before))
+event-room c = omega (arith, room (c .before) 1 (c .match .keys1), sizes .0)
 
-slice-read-width : tie.Need-shared-slice-read-t12
-slice-read-width c =
-    let at-match = c .before .before in
-    let start = at-match .before .before .before in
-    omega (arith, config-room (now (start .args .part)) (start .pre .1) (at-match .match .keys3))
+line-room : (c : tie.At-match-keys2) → 2 ≤ length (lent (c .before))
+line-room c = omega (arith, room (c .before) 2 (c .match .keys2), sizes .1)
 
-word32-requires : tie.Need-word32-requires
-word32-requires c κs =
-    let at-match = c .before .before in
-    let start = at-match .before .before .before in
-    omega (arith, config-room (now (start .args .part)) (start .pre .1) (at-match .match .keys3))
+config-room : (c : tie.At-match-keys3) → 8 ≤ length (lent (c .before))
+config-room c = omega (arith, room (c .before) 3 (c .match .keys3), sizes .2)
 
-slice-read-bar : tie.Need-shared-slice-read-t15
-slice-read-bar c =
-    let at-match = c .before in
-    let start = at-match .before .before .before in
-    omega (arith, bar-room (now (start .args .part)) (start .pre .1) (at-match .match .keys4))
+bar-room : (c : tie.At-match-keys4) → 15 ≤ length (lent (c .before))
+bar-room c = omega (arith, room (c .before) 4 (c .match .keys4), sizes .3)
 
-word32-requires-2 : tie.Need-word32-requires-2
-word32-requires-2 c κs =
-    let at-match = c .before in
-    let start = at-match .before .before .before in
-    omega (arith, bar-room (now (start .args .part)) (start .pre .1) (at-match .match .keys4))
-
-slice-read-width-2 : tie.Need-shared-slice-read-t18
-slice-read-width-2 c =
-    let at-match = c .before .before .before in
-    let start = at-match .before .before .before in
-    omega (arith, bar-room (now (start .args .part)) (start .pre .1) (at-match .match .keys4))
-
-word64-requires : tie.Need-word64-requires
-word64-requires c κs =
-    let at-match = c .before .before .before in
-    let start = at-match .before .before .before in
-    omega (arith, bar-room (now (start .args .part)) (start .pre .1) (at-match .match .keys4))
+-- ---- the record
 
 returns : tie.Need-returns
 returns c = rw (c .word16 .ensures) (is-event _ (c .before .match .keys1))
@@ -86,15 +63,15 @@ record-in-spec =
     tie.close
     (tie.spec
     (λ c. search needs)
-    word16-requires
-    slice-read-level
-    word16-requires-2
-    slice-read-width
-    word32-requires
-    slice-read-bar
-    word32-requires-2
-    slice-read-width-2
-    word64-requires
+    (λ c κs. omega (arith, event-room c))
+    (λ c. omega (arith, line-room (c .before)))
+    (λ c κs. omega (arith, config-room c))
+    (λ c. omega (arith, config-room (c .before .before)))
+    (λ c κs. omega (arith, config-room (c .before .before)))
+    (λ c. omega (arith, bar-room (c .before)))
+    (λ c κs. omega (arith, bar-room (c .before)))
+    (λ c. omega (arith, bar-room (c .before .before .before)))
+    (λ c κs. omega (arith, bar-room (c .before .before .before)))
     returns
     returns-2
     returns-3

@@ -6,7 +6,7 @@ use denote.Ref.{now}
 use borrow.Author.Needs.{needs}
 use Rattle.words.specs.Bytes.{byte}
 use Rattle.log.specs.Logs.{sizeOf}
-use Rattle.log.proofs.FormatLaws.{line-room}
+use Rattle.log.proofs.FormatLaws.{kind-room, sizes}
 use Rattle.log.proofs.WholeLaws.{whole-empty, whole-short, whole-is, whole-wrong, other-level}
 use Rattle.log.proofs.whole.whole_in.Statement.{statement}
 use Rattle.log.proofs.whole.whole_in.Tie as tie
@@ -30,7 +30,7 @@ slice-read-level c =
     let start = at-size-of .before .before .before .before in
     let log = now (start .args .log) in
     let room : sizeOf (byte log 0) ≤ length log = omega (arith, at-size-of .size-of .ensures, at-if2 .if2 .left) in
-    omega (arith, line-room log room (at-if3 .if3 .left))
+    omega (arith, kind-room log room 2 (at-if3 .if3 .left), sizes .1)
 
 returns-4 : tie.Need-returns-4
 returns-4 c =
