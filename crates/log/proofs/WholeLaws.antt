@@ -126,30 +126,31 @@ module _ (n : ℕ) (l : List ℕ) where
       by-test (eqb (kind l) 2) (λ t. line (eqb-true (kind l) 2 t)) (λ n2.
       by-test (eqb (kind l) 3) (λ t. config (eqb-true (kind l) 3 t)) (λ n3.
       by-test (eqb (kind l) 4) (λ t. bar (eqb-true (kind l) 4 t)) (λ n4.
-      by-test (eqb (kind l) 5) (λ t. other (eqb-true (kind l) 5 t)) (λ n5.
-      absurd (z (sym (no-kind (kind l) (eqb-false (kind l) 1 n1) (eqb-false (kind l) 2 n2) (eqb-false (kind l) 3 n3) (eqb-false (kind l) 4 n4) (eqb-false (kind l) 5 n5)))))))))
+      by-test (eqb (kind l) 5) (λ t. reset (eqb-true (kind l) 5 t)) (λ n5.
+      absurd (z (sym
+      (no-kind (kind l) (eqb-false (kind l) 1 n1) (eqb-false (kind l) 2 n2) (eqb-false (kind l) 3 n3) (eqb-false (kind l) 4 n4) (eqb-false (kind l) 5 n5)))))))))
     where
-      sized : (k : ℕ) → (kind l) ≡ k → (sizeOf k ≤ length l → TakesWhole n l (sizeOf k)) → TakesWhole n l (sizeOf (kind l))
+      sized : (k : ℕ) → kind l ≡ k → (sizeOf k ≤ length l → TakesWhole n l (sizeOf k)) → TakesWhole n l (sizeOf (kind l))
       sized k e t = subst (λ (x : ℕ). TakesWhole n l (sizeOf x)) (sym e) (t (rw e at h))
 
-      event : (kind l) ≡ 1 → TakesWhole n l (sizeOf (kind l))
+      event : kind l ≡ 1 → TakesWhole n l (sizeOf (kind l))
       event e = sized 1 e (λ r. at-kind 1 2 e r (whole-event n (drop 3 l) (byte l 1) (byte l 2)))
 
-      line : (kind l) ≡ 2 → TakesWhole n l (sizeOf (kind l))
+      line : kind l ≡ 2 → TakesWhole n l (sizeOf (kind l))
       line e = sized 2 e (λ r. at-kind 2 1 e r (whole-line n (drop 2 l) (byte l 1) (rw e at f)))
 
-      config : (kind l) ≡ 3 → TakesWhole n l (sizeOf (kind l))
+      config : kind l ≡ 3 → TakesWhole n l (sizeOf (kind l))
       config e =
           sized 3 e (λ r. at-kind 3 7 e r (whole-config n (drop 8 l) (byte l 1) (byte l 2) (byte l 3) (byte l 4) (byte l 5) (byte l 6) (byte l 7)))
 
-      bar : (kind l) ≡ 4 → TakesWhole n l (sizeOf (kind l))
+      bar : kind l ≡ 4 → TakesWhole n l (sizeOf (kind l))
       bar e =
           sized 4 e (λ r. at-kind 4 14 e r
           (whole-bar n (drop 15 l) (byte l 1) (byte l 2) (byte l 3) (byte l 4) (byte l 5) (byte l 6) (byte l 7)
           (byte l 8) (byte l 9) (byte l 10) (byte l 11) (byte l 12) (byte l 13) (byte l 14)))
 
-      other : (kind l) ≡ 5 → TakesWhole n l (sizeOf (kind l))
-      other e = sized 5 e (λ r. at-kind 5 0 e r (whole-reset n (drop 1 l)))
+      reset : kind l ≡ 5 → TakesWhole n l (sizeOf (kind l))
+      reset e = sized 5 e (λ r. at-kind 5 0 e r (whole-reset n (drop 1 l)))
 
   -- A record that stands whole at the start of a log is what a player between two records takes of it
   pub takes-whole : (wholeIn l ≡ 0 → ⊥) → TakesWhole n l (wholeIn l)

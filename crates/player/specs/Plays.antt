@@ -71,5 +71,6 @@ abbrev pub gaveBy : (card : List ℕ) → Outcome → Gave
 gaveBy card o =
     gave (o .answer) (cardOver (refusalOf (o .answer)) card (o .world)) (o .world .endpoint .table) (o .world .endpoint .pending) (o .output) (o .count)
 
+-- the call that a record is
 abbrev pub performed : (card table pending : List ℕ) → Record → (out : List ℕ) → Gave
 performed card table pending r out = gaveBy card (step (worldOf (cardIn card) table pending) (callOf r out))
