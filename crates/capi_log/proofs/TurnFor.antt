@@ -50,10 +50,11 @@ module _ (player log : List ℕ) where
       abbrev next : Advanced
       next = advanced (playerIn player) log
 
+      pub at-once-next : advanced (between (word64 player 17)) log ≡ next
+      at-once-next = ap (λ (p : Player). advanced p log) (sym (player-between player n at-once-between))
+
       pub at-once-due : DueWhole next (word64 player 17) log (wholeIn log)
-      at-once-due =
-          subst (λ (p : Player). DueWhole (advanced p log) (word64 player 17) log (wholeIn log)) (sym (player-between player n at-once-between))
-          (takes-whole (word64 player 17) log is-whole)
+      at-once-due = subst (λ (a : Advanced). DueWhole a (word64 player 17) log (wholeIn log)) at-once-next (takes-whole (word64 player 17) log is-whole)
 
       -- answered otherwise than with 6: the next record follows
       pub after-counted : (a : Answer) → lacksRoom a ≡ false → playerBytes (between (counted (word64 player 17))) ≡ playerBytes (onward (next .player) a)

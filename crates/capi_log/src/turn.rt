@@ -10,6 +10,7 @@ use crate::bytes::player_of;
 use crate::bytes::put_counted;
 use crate::bytes::put_player;
 use log::advance::advance;
+use log::advance::advance_between;
 use log::advance::held_record;
 use log::advance::onward;
 use log::answer::lacks_room;
@@ -57,7 +58,7 @@ fn put_after(player: &mut [u8], log: &[u8], answer: Answer)
         put_counted(player);
         return;
     }
-    let next = advance(player_of(player), log);
+    let next = advance_between(words::get::word64(player, 17), log);
     let kept = next.player;
     put_player(player, onward(kept, answer));
 }

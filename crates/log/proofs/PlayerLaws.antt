@@ -12,7 +12,7 @@ use Rattle.log.specs.declared.Stage.{Stage}
 use Rattle.log.specs.declared.Stage.the-variants.{Header, Records, Again, Broken}
 use Rattle.log.specs.declared.Scanned.{Scanned}
 use Rattle.log.specs.declared.Advanced.{Advanced}
-use Rattle.log.specs.Players.{playerOf, between, counted, advancedOf, stopped, scan, scanned, resumed, advanced, isPlaying}
+use Rattle.log.specs.Players.{playerOf, noPart, between, counted, advancedOf, stopped, scan, scanned, resumed, advanced, isPlaying}
 use Rattle.log.specs.Plays.{lacksRoom, onward}
 
 pub counted-last : (n : ℕ) → n ≡ 18446744073709551615 → n ≡ counted n
@@ -57,6 +57,14 @@ header-scans p l = refl
 pub records-scan : (p : Player) (l : List ℕ) → resumed Records p l ≡ scanned (scan p l) (scan p l .end)
 unfolding resumed
 records-scan p l = refl
+
+-- of a player between two records
+pub between-plays : isPlaying Records 0 noPart ≡ true
+unfolding isPlaying
+between-plays = refl
+
+pub between-scans : (n : ℕ) (l : List ℕ) (s : Scanned) (a : Advanced) → s ≡ scan (between n) l → a ≡ scanned s (s .end) → a ≡ advanced (between n) l
+between-scans n l s a e f = advance-scans (between n) l between-plays Records refl (records-scan (between n) l) s a e f
 
 module _ (p : Player) (l : List ℕ) (plays : isPlaying (p .stage) (p .taken) (p .part) ≡ true) where
   pub advance-again : p .stage ≡ Again → advancedOf p 0 0 true ≡ advanced p l

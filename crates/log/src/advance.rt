@@ -134,6 +134,13 @@ pub fn advance(player: Player, log: &[u8]) -> Advanced
     }
 }
 
+// The same for a player between two records, of which its number is all.
+pub fn advance_between(number: u64, log: &[u8]) -> Advanced
+    ensures { λ r. ⌜ r ≡ advanced (between number) (now (log .entry)) ⌝ }
+{
+    after_scan(scan_record([0; 15], 0, number, log, 0))
+}
+
 // The record that a player holds.
 pub fn held_record(player: Player) -> Record
     ensures { λ r. ⌜ r ≡ recordIn (player .part) ⌝ }

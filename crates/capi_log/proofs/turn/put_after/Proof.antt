@@ -1,13 +1,13 @@
 use mathlib.Core.Path.{sym, ap, _∙_}
+use Prim.Native.Nat.{ℕ}
 use denote.Ref.{now}
 use borrow.Author.Needs.{needs}
 use borrow.Author.Tests.{not-true}
-use Rattle.log.specs.declared.Player.{Player}
 use Rattle.log.specs.declared.Advanced.{Advanced}
-use Rattle.log.specs.Players.{advanced}
+use Rattle.log.specs.Players.{between, advanced}
 use Rattle.log.specs.Plays.{onward}
 use Rattle.capi_log.specs.Crossing.{playerBytes}
-use Rattle.capi_log.proofs.TurnFor.{at-once-between, after-counted}
+use Rattle.capi_log.proofs.TurnFor.{at-once-between, at-once-next, after-counted}
 use Rattle.capi_log.proofs.turn.put_after.Statement.{statement}
 use Rattle.capi_log.proofs.turn.put_after.Tie as tie
 
@@ -30,13 +30,14 @@ returns-2 : tie.Need-returns-2
 returns-2 c =
     let at-put-player = c .before .before in
     let at-onward = at-put-player .before in
-    let at-advance = at-onward .before .before .before in
-    let at-player-of = at-advance .before in
-    let at-test = at-player-of .before .before .before in
+    let at-next = at-onward .before .before .before in
+    let at-number = at-next .before in
+    let at-test = at-number .before .before .before in
     let start = at-test .before .before .before in
     let answer = start .args .answer in
     let log = now (start .args .log) in
-    let next = at-advance .advance .ensures ∙ ap (λ (p : Player). advanced p log) (at-player-of .player-of .ensures) in
+    let number = ap (λ (n : ℕ). advanced (between n) log) (at-number .word64 .ensures) in
+    let next = at-next .advance-between .ensures ∙ number ∙ at-once-next _ _ (start .pre .1) (start .pre .0) in
     at-put-player .put-player .ensures ∙ ap playerBytes (at-onward .onward .ensures ∙ ap (λ (x : Advanced). onward (x .player) answer) next)
 
 pub put-after-spec : {M : Type 1} → statement M
