@@ -35,7 +35,7 @@ pub fn version(image: &[u8]) -> u16
 }
 
 // The 256 configuration bytes from place `at` on.
-fn config_at(s: &[u8], at: usize) -> [u8; 256]
+pub fn config_at(s: &[u8], at: usize) -> [u8; 256]
     requires { ⌜ at + 256 ≤ length (now s) ⌝ }
     ensures { λ r. ⌜ r ≡ part at 256 (now (s .entry)) ⌝ }
 {

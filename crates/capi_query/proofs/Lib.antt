@@ -1,0 +1,2 @@
+pub mod LengthsFor
+pub mod FieldsFor
