@@ -1,2 +1,4 @@
+pub mod Fits
+pub mod FirstPacket
 pub mod LengthsFor
 pub mod FieldsFor

@@ -1,11 +1,10 @@
 -- What `musgarento_packet` tells of the first of some packets. Assumes nothing.
 use mathlib.Core.Bool.{cond}
 use mathlib.Core.List.{List}
-use Prim.Native.Nat.{ℕ, _+_, _*_, _/_, _%_, _^_}
+use Prim.Native.Nat.{ℕ, _+_, _*_, _%_, _^_}
 use lib.Dec.{eqb}
 use lib.ListN.{take}
 use Rattle.words.specs.Bits.{ofBool}
-use Rattle.model.specs.Packets.{message, wireMessage}
 use Rattle.tlp.specs.declared.decode.Message as Message
 use Rattle.tlp.specs.declared.decode.Level.{Level}
 use Rattle.tlp.specs.declared.decode.Packet.{Packet}
