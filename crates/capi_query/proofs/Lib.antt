@@ -1,4 +1,5 @@
 pub mod Fits
 pub mod FirstPacket
+pub mod Interface
 pub mod LengthsFor
 pub mod FieldsFor

@@ -1,3 +1,4 @@
 pub mod Lengths
 pub mod Fields
 pub mod Claims
+pub mod Interface
