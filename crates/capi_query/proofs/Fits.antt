@@ -1,13 +1,13 @@
 -- The lengths told are those that a start and a restore ask of their lent buffers. Assumes nothing.
-use mathlib.Core.Path.{_≡_, refl, sym, ap, _∙_}
-use mathlib.Core.Bool.{Bool, true, false, cond, _&&_}
+use mathlib.Core.Path.{_≡_, refl, sym, _∙_}
+use mathlib.Core.Bool.{true, false, cond, _&&_}
 use mathlib.Core.List.{List, []}
 use Prim.Native.Nat.{ℕ, _<_}
 use native.Mathlib.Omega.{arith}
 use lib.Dec.{eqb, ltb}
 use lib.ListN.{length, take}
 use borrow.Author.Tests.{eq-eqb, eqb-true, eqb-false, ltb-true, ltb-false}
-use Rattle.words.specs.Lists.{same, firstOf}
+use Rattle.words.specs.Lists.{same}
 use Rattle.words.specs.Bytes.{word16}
 use Rattle.words.proofs.BoolLaws.{by-test, first-elim, row-passes, no-row}
 use Rattle.model.specs.Shape.{shapeOf, tableBytes, pendingBytes}
