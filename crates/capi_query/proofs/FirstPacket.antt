@@ -1,4 +1,5 @@
--- The first of some packets is told with its own fields, and what is told is a packet of document 01. Assumes nothing.
+-- The first of some packets is told with its own fields, and what is told is a packet of document 01: both by the round trip of `tlp`, on the part of
+-- the bytes that the first packet's length cuts off. Assumes nothing.
 use mathlib.Core.Path.{_≡_, refl, sym, ap, _∙_}
 use mathlib.Core.Bool.{Bool}
 use mathlib.Core.List.{List, _++_}

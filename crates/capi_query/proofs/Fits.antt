@@ -1,5 +1,6 @@
--- The lengths told are those that a start and a restore ask of their lent buffers. Assumes nothing.
-use mathlib.Core.Path.{_≡_, refl, sym, _∙_}
+-- The lengths told are those that a start and a restore ask of their lent buffers. A start has one row with the number 17; of a restore the checks
+-- are gone through in their order, once for the refusal told and once for the restore over any buffers. Assumes nothing.
+use mathlib.Core.Path.{_≡_, refl, sym, ap, _∙_}
 use mathlib.Core.Bool.{true, false, cond, _&&_}
 use mathlib.Core.List.{List, []}
 use Prim.Native.Nat.{ℕ, _<_}
@@ -12,14 +13,20 @@ use Rattle.words.specs.Bytes.{word16}
 use Rattle.words.proofs.BoolLaws.{by-test, first-elim, row-passes, no-row}
 use Rattle.model.specs.Shape.{shapeOf, tableBytes, pendingBytes}
 use Rattle.model.specs.World.{World}
+use Rattle.model.specs.Answers.{refusalOf}
+use Rattle.model.specs.Sound.{sound, shape}
+use Rattle.model.specs.Claims.{Typed, SameRoom}
+use Rattle.model.specs.Calls.{Outcome}
 use Rattle.model.specs.Start.{Given, given, startRefusal, badBuffers}
-use Rattle.model.specs.Image.{mark, worldIn, isSaved, restoreRefusal}
+use Rattle.model.specs.Image.{mark, imageOf, worldIn, isSaved, restoreRefusal}
 use Rattle.model.proofs.Sound.SoundLaws.{accepts, buffers-fit}
 use Rattle.model.proofs.Shapes.FitLaws.{sound-fit}
+use Rattle.model.proofs.Refusals.{restore-number}
+use Rattle.model.proofs.ImageExact.{reads-back, restored}
 use Rattle.model.proofs.Calls.RestoreCalls as RestoreCalls
 use Rattle.model.proofs.Calls.RestoreCalls.{IsImage, saved-sound, none-refuses}
 use Rattle.capi_query.specs.declared.lengths.Lengths.{Lengths}
-use Rattle.capi_query.specs.Lengths.{lengthsOf, configLengths, imageRefusal, imageLengths}
+use Rattle.capi_query.specs.Lengths.{lengths, lengthsOf, configLengths, imageRefusal, imageLengths}
 
 -- ---- a start
 
@@ -101,3 +108,17 @@ restore-fits l t p =
     both-refuse l t p 20 refl (RestoreCalls.too-short l _ _ short) (RestoreCalls.too-short l t p short))
     (λ h. by-test (same (take 3 l) mark) (marked-fits l t p h)
     (λ m. let long = ltb-false (length l) 294 h in both-refuse l t p 20 refl (RestoreCalls.no-mark l _ _ long m) (RestoreCalls.no-mark l t p long m)))
+
+-- ---- a save
+
+-- the image of a sound card is told with N and the lengths of the card's own buffers
+pub saved-lengths : (w : World) → Typed w → sound w ≡ true
+    → imageLengths (imageOf w) ≡ lengths 0 (shape (w .endpoint) .msix .vectors) (length (w .endpoint .table)) (length (w .endpoint .pending))
+unfolding imageLengths imageRefusal lengthsOf refusalOf
+saved-lengths w t s =
+    let image = imageOf w in
+    let fit = sound-fit w s in
+    let room : SameRoom w w = record { table = refl; pending = refl } in
+    let zero : restoreRefusal image (length (w .endpoint .table)) (length (w .endpoint .pending)) ≡ 0 =
+    sym (restore-number w image) ∙ ap (λ (r : Outcome). refusalOf (r .answer)) (restored w w t s room) in
+    rw (reads-back w t s, zero, fit .table, fit .pending)

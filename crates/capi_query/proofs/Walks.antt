@@ -1,4 +1,5 @@
--- Packets read one after another: what is read makes the bytes again, and packets that are put together are read. Assumes nothing.
+-- Packets read one after another: what is read makes the bytes again, and packets that are put together are read. `Passes` says so of bytes in front
+-- of any others, so that it holds of each packet and of what is joined of such. Assumes nothing.
 use mathlib.Core.Path.{_≡_, refl, sym, ap, ap₂, _∙_, subst}
 use mathlib.Core.Bool.{Bool, true, false}
 use mathlib.Core.List.{List, [], _∷_, _++_, append-assoc, append-nil}

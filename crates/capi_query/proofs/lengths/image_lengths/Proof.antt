@@ -1,4 +1,5 @@
--- The checks of a restore in their order, one law for each refusal. Assumes nothing.
+-- The checks of a restore in their order, one law for each refusal; that the image passed 20 and 21 is gathered in `image-passed`.
+-- Assumes nothing.
 use denote.Ref.{now}
 use Rattle.model.proofs.Calls.RestoreCalls.{IsImage}
 use Rattle.snapshot.proofs.RestoreFor.{is-image}
