@@ -113,12 +113,12 @@ impl<'a> Pair<'a> {
         })
     }
 
-    /// The image of a restore; empty for other calls.
+    /// The image that a call reads; empty for other calls.
     pub fn image_of(&self, call: &Call) -> Vec<u8> {
-        match call {
-            Call::Restore(Image::Bytes(bytes)) => bytes.clone(),
-            Call::Restore(Image::Kept(number, damage)) => damaged(self.image(*number), damage),
-            _ => Vec::new(),
+        match call.image() {
+            Some(Image::Bytes(bytes)) => bytes.clone(),
+            Some(Image::Kept(number, damage)) => damaged(self.image(*number), damage),
+            None => Vec::new(),
         }
     }
 
@@ -221,6 +221,9 @@ pub fn outcome_text(outcome: &Outcome) -> String {
             (1, number) => format!(", record refused with {number}"),
             (ended, number) => format!(", ended {ended}, refusal {number}"),
         };
+    }
+    if let Some(found) = outcome.found {
+        text += &format!(", {found:X?}");
     }
     text
 }

@@ -2,6 +2,7 @@
 
 use super::{Statistics, Table};
 use crate::call::{Call, Room, SwitchCall, SWITCH_KINDS};
+use crate::packets::aligned;
 use crate::pair::Made;
 use crate::wide;
 use crate::world::{PORTS_AT, SWITCH_BYTES};
@@ -234,11 +235,12 @@ fn sent<'a>(made: &Made<'a>) -> &'a [u8] {
 fn wrong_packet(packet: &[u8]) -> Option<&'static str> {
     match Packet::read(packet) {
         None if packet.is_empty() => Some("50 for no bytes"),
-        None => Some("50 for bytes that are no packet"),
+        None => Some(match Packet::read(&aligned(packet)) {
+            Some((_, [])) => "50 for address bits 1:0",
+            _ => "50 for bytes that are no packet",
+        }),
         Some((_, [_, ..])) => Some("50 for bytes behind a packet"),
-        Some((Packet::Message { address, .. }, [])) => {
-            (address & 3 != 0).then_some("50 for address bits 1:0")
-        }
+        Some((Packet::Message { .. }, [])) => None,
         Some((wire, [])) => (wire.requester() >> 3 & 0x1F != 0).then_some("50 for a device number"),
     }
 }
