@@ -324,7 +324,8 @@ uint8_t musgarento_log_record(uint64_t kind, uint64_t bar, uint64_t offset,
 /* N, the number of MSI-X vectors of a configuration, and the lengths of table
    and pending array that its start asks for: 16N and 8 x (N/64 rounded up).
    With no MSI-X, and with a broken capability list, which a start refuses, all
-   three are 0. Refusal: 60. */
+   three are 0; with MSI-X listed twice, which it refuses too, the first one
+   counts. Refusal: 60. */
 uint8_t musgarento_config_lengths(const uint8_t *config, size_t config_len,
                                   size_t *vectors, size_t *table_len,
                                   size_t *pending_len);

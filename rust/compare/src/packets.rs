@@ -33,14 +33,15 @@ pub fn message(requester: u16, address: u64, data: u32) -> Vec<u8> {
     packet.bytes().expect("a message has no pin")
 }
 
-/// The bytes with address bits 1:0 cleared, as in a message.
+/// The bytes with address bits 1:0 cleared, if they are those of a message.
 pub fn aligned(packet: &[u8]) -> Vec<u8> {
     let mut bytes = packet.to_vec();
-    let address_at = match packet.first() {
-        Some(0x60) => LONG_ADDRESS_AT,
-        _ => SHORT_ADDRESS_AT,
+    let last = match packet.first() {
+        Some(0x40) => bytes.get_mut(SHORT_ADDRESS_AT + 3),
+        Some(0x60) => bytes.get_mut(LONG_ADDRESS_AT + 3),
+        _ => None,
     };
-    if let Some(byte) = bytes.get_mut(address_at + 3) {
+    if let Some(byte) = last {
         *byte &= !3;
     }
     bytes
