@@ -1,7 +1,7 @@
 //! Both models side by side: each step is made on both, and everything is
 //! compared after it.
 
-use crate::call::{Call, Damage, Image, Outcome, Room, Step};
+use crate::call::{Call, Damage, Found, Image, Outcome, Room, Step};
 use crate::second;
 use crate::world::{other_flags, World, PARTS};
 use std::collections::BTreeMap;
@@ -223,9 +223,29 @@ pub fn outcome_text(outcome: &Outcome) -> String {
         };
     }
     if let Some(found) = outcome.found {
-        text += &format!(", {found:X?}");
+        text += &found_text(&found);
     }
     text
+}
+
+/// What a query found, to be put behind the refusal.
+fn found_text(found: &Found) -> String {
+    match found {
+        Found::Lengths(lengths) => format!(
+            ", N {}, table {}, pending array {}",
+            lengths.vectors, lengths.table, lengths.pending
+        ),
+        Found::Packet(fields) => format!(
+            ", count {}, kind {}, requester {:04X}h, address {:X}h, data {:X}h, pin {}, level {}",
+            fields.count,
+            fields.kind,
+            fields.requester,
+            fields.address,
+            fields.data,
+            fields.pin,
+            fields.level
+        ),
+    }
 }
 
 /// Lists the first bytes in which two parts differ.
