@@ -1,13 +1,16 @@
 /*
  * The interrupts of one PCIe endpoint function: pin (INTx), MSI and MSI-X; a
  * switch between up to eight such cards and the host; and logs of calls, which
- * are recorded and played again.
+ * are recorded and played again. Three functions more read lengths and packets
+ * for a host.
  *
  * `rt staticlib capi` builds the functions of a card as
  * target/staticlib/libcapi.a, `rt staticlib capi_switch` those of a switch
- * (musgarento_switch_*) as target/staticlib/libcapi_switch.a, and
+ * (musgarento_switch_*) as target/staticlib/libcapi_switch.a,
  * `rt staticlib capi_log` those of logs (musgarento_play, musgarento_log_*) as
- * target/staticlib/libcapi_log.a.
+ * target/staticlib/libcapi_log.a, and `rt staticlib capi_query` those that read
+ * lengths and packets (musgarento_config_lengths, musgarento_image_lengths,
+ * musgarento_packet) as target/staticlib/libcapi_query.a.
  *
  * A card crosses this interface as 289 bytes, those that stand in a saved
  * image from the flags to the last configuration byte, numbers little-endian:
@@ -21,7 +24,8 @@
  *
  * The MSI-X table (16 bytes for each of N vectors) and the pending array
  * (8 bytes for each 64 vectors or part of them) are lent at each call. N is
- * MSI-X Table Size + 1, or 0 with no MSI-X.
+ * MSI-X Table Size + 1, or 0 with no MSI-X. musgarento_config_lengths and
+ * musgarento_image_lengths give N and both lengths.
  *
  * A switch crosses as 10 bytes:
  *
@@ -94,8 +98,8 @@ enum musgarento_refusal {
        not ask what the bytes were, a requester above FFFFh. Of a player also a
        first byte above 3, or a card whose flags byte has another bit than bits
        0 and 1 set. Of the recorder a kind that is not 1 to 5, or a value of a
-       configuration write above FFFFFFFFh. Nothing changes, not even the card
-       of a start. */
+       configuration write above FFFFFFFFh. Of a packet that is read, bytes that
+       begin with no packet. Nothing changes, not even the card of a start. */
     MUSGARENTO_LENGTHS = 60,
 
     /* Of a player: */
@@ -316,6 +320,40 @@ uint8_t musgarento_log_begin(uint8_t *out, size_t out_len, size_t *count);
 uint8_t musgarento_log_record(uint64_t kind, uint64_t bar, uint64_t offset,
                               uint64_t width, uint64_t value, uint8_t refusal,
                               uint8_t *out, size_t out_len, size_t *count);
+
+/* N, the number of MSI-X vectors of a configuration, and the lengths of table
+   and pending array that its start asks for: 16N and 8 x (N/64 rounded up).
+   With no MSI-X, and with a broken capability list, which a start refuses, all
+   three are 0; with MSI-X listed twice, which it refuses too, the first one
+   counts. Refusal: 60. */
+uint8_t musgarento_config_lengths(const uint8_t *config, size_t config_len,
+                                  size_t *vectors, size_t *table_len,
+                                  size_t *pending_len);
+
+/* The same of an image: a restore over buffers of these lengths is accepted.
+   Refusals: 20, 21, 22, as of a restore. */
+uint8_t musgarento_image_lengths(const uint8_t *image, size_t image_len,
+                                 size_t *vectors, size_t *table_len,
+                                 size_t *pending_len);
+
+/* What a packet is. */
+enum musgarento_packet_kind {
+    /* a memory write of one word: a message */
+    MUSGARENTO_PACKET_MESSAGE = 1,
+    /* Assert_INTx or Deassert_INTx */
+    MUSGARENTO_PACKET_WIRE = 2
+};
+
+/* Reads the first of the packets that stand one after another; count is its
+   number of bytes. Of a message `address` has the upper address in its high
+   half; of a wire packet `pin` is 1 to 4 and `level` is 1 for Assert, 0 for
+   Deassert. What a kind has no use for is 0. The bytes behind the packet are
+   not looked at. Refusal: 60 if no packet stands there; an address with bits
+   1:0 set is in none, and an upper address of 0 in none of 20 bytes. */
+uint8_t musgarento_packet(const uint8_t *packets, size_t packets_len,
+                          size_t *count, uint8_t *kind, uint16_t *requester,
+                          uint64_t *address, uint32_t *data,
+                          uint8_t *pin, uint8_t *level);
 
 #ifdef __cplusplus
 }

@@ -1,11 +1,12 @@
-//! Finds the archives of the proved card, switch and player of logs.
+//! Finds the archives of the proved card, switch and player of logs, and of what
+//! reads lengths and packets.
 
 use std::env;
 use std::path::{Path, PathBuf};
 use std::process::exit;
 
 /// The libraries, each under the name of the crate that it is built from.
-const LIBRARIES: [&str; 3] = ["capi", "capi_switch", "capi_log"];
+const LIBRARIES: [&str; 4] = ["capi", "capi_switch", "capi_log", "capi_query"];
 
 /// Names a folder that has the archives.
 const VARIABLE: &str = "MUSGARENTO_LIB_DIR";

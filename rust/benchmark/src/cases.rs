@@ -11,7 +11,7 @@ pub type Calls = Box<dyn FnMut(u64) -> u8>;
 /// A call, made by both models on the same input.
 pub struct Case {
     pub name: &'static str,
-    /// N of the card; a switch has none.
+    /// N of the card; a switch has none, and where N plays no part there is none.
     pub vectors: Option<usize>,
     pub proved: Calls,
     pub second: Calls,

@@ -1,5 +1,5 @@
-//! Times of the proved card's and switch's calls, through the C interface,
-//! against the second model, and of a card's against a plain scan of the
+//! Times of the proved card's and switch's calls and of what reads lengths and
+//! packets, through the C interface, against the second model, and of a card's against a plain scan of the
 //! buffers; then those of logs played against the same calls made directly.
 //! Prints two Markdown tables. `--rounds R` sets the number of rounds.
 
@@ -7,6 +7,7 @@ mod cases;
 mod floor;
 mod log;
 mod measure;
+mod query;
 mod state;
 mod switch;
 
@@ -126,7 +127,8 @@ fn main() -> ExitCode {
     println!("of the soundness check is a scan of table and pending array by 64-bit words.");
     println!("A release copies card and pending array back before each call, in both. A");
     println!("switch has no N; it is called with its 10 bytes, and copied back before each");
-    println!("call of a port going down, in both.\n");
+    println!("call of a port going down, in both. The row of 2,048 messages has half of");
+    println!("them below 4 GiB; the nanoseconds are for all of them.\n");
     println!("| Call | N | Proved | Second model | Proved / second | Floor | Proved / floor |");
     println!("|---|---:|---:|---:|---:|---:|---:|");
     for vectors in VECTORS {
@@ -135,6 +137,9 @@ fn main() -> ExitCode {
         }
     }
     for case in &mut switch::cases() {
+        print_row(case, rounds);
+    }
+    for case in &mut query::cases() {
         print_row(case, rounds);
     }
     print_logs(rounds);

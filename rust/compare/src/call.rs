@@ -36,6 +36,8 @@ pub enum Call {
     Switch(SwitchCall),
     /// A call of a player or recorder of logs; the others are of a card.
     Log(LogCall),
+    /// What a host asks about bytes.
+    Query(QueryCall),
 }
 
 /// One call of a switch.
@@ -62,6 +64,17 @@ pub enum LogCall {
     Record(Recording),
     /// Calls of the card are made and recorded, and their log is played.
     Trial(Recorded),
+}
+
+/// A question about bytes. It changes nothing.
+#[derive(Clone, Debug, PartialEq, Eq)]
+pub enum QueryCall {
+    /// The lengths that a start from this configuration asks for.
+    ConfigLengths(Vec<u8>),
+    /// The lengths that a restore of this image asks for.
+    ImageLengths(Image),
+    /// The first packet of these bytes.
+    Packet(Vec<u8>),
 }
 
 /// The numbers of a call of the recorder.
@@ -93,7 +106,7 @@ pub struct Given {
     pub requester: u64,
 }
 
-/// The image of a restore.
+/// The image of a restore, or of a question about it.
 #[derive(Clone, Debug, PartialEq, Eq)]
 pub enum Image {
     /// The one kept under this number (empty if there is none), damaged.
@@ -141,6 +154,7 @@ pub enum Subject {
     Card,
     Switch,
     Log,
+    Query,
 }
 
 impl Subject {
@@ -150,6 +164,7 @@ impl Subject {
             Subject::Card => "card",
             Subject::Switch => "switch",
             Subject::Log => "log",
+            Subject::Query => "query",
         }
     }
 }
@@ -174,9 +189,12 @@ pub const SWITCH_KINDS: [&str; 3] = ["switch start", "packet", "port down"];
 /// The kinds of calls of logs, in the order of `LogCall`.
 pub const LOG_KINDS: [&str; 4] = ["play", "log begin", "log record", "recorded trial"];
 
+/// The kinds of questions, in the order of `QueryCall`.
+pub const QUERY_KINDS: [&str; 3] = ["config lengths", "image lengths", "packet"];
+
 impl Call {
-    /// The place of the call's kind in `CARD_KINDS`, `SWITCH_KINDS` or
-    /// `LOG_KINDS`.
+    /// The place of the call's kind in `CARD_KINDS`, `SWITCH_KINDS`, `LOG_KINDS`
+    /// or `QUERY_KINDS`.
     pub fn kind(&self) -> usize {
         match self {
             Call::Start(_) => 0,
@@ -196,6 +214,25 @@ impl Call {
             Call::Log(LogCall::Begin) => 1,
             Call::Log(LogCall::Record(_)) => 2,
             Call::Log(LogCall::Trial(_)) => 3,
+            Call::Query(QueryCall::ConfigLengths(_)) => 0,
+            Call::Query(QueryCall::ImageLengths(_)) => 1,
+            Call::Query(QueryCall::Packet(_)) => 2,
+        }
+    }
+
+    /// The image that the call reads, if it reads one.
+    pub fn image(&self) -> Option<&Image> {
+        match self {
+            Call::Restore(image) | Call::Query(QueryCall::ImageLengths(image)) => Some(image),
+            _ => None,
+        }
+    }
+
+    /// The same, to change.
+    pub fn image_mut(&mut self) -> Option<&mut Image> {
+        match self {
+            Call::Restore(image) | Call::Query(QueryCall::ImageLengths(image)) => Some(image),
+            _ => None,
         }
     }
 
@@ -209,6 +246,7 @@ impl Call {
                 | Call::Restore(_)
                 | Call::Switch(SwitchCall::Start(_))
                 | Call::Log(LogCall::Trial(_))
+                | Call::Query(_)
         )
     }
 
@@ -253,6 +291,35 @@ pub struct Outcome {
     pub count: Option<usize>,
     /// Of a call of the player.
     pub played: Option<Played>,
+    /// Of a question.
+    pub found: Option<Found>,
+}
+
+/// What a question was answered with.
+#[derive(Clone, Copy, Debug, PartialEq, Eq)]
+pub enum Found {
+    Lengths(Lengths),
+    Packet(Fields),
+}
+
+/// The number of MSI-X vectors, and the lengths of the buffers to lend.
+#[derive(Clone, Copy, Debug, Default, PartialEq, Eq)]
+pub struct Lengths {
+    pub vectors: usize,
+    pub table: usize,
+    pub pending: usize,
+}
+
+/// The fields of a packet, and how many bytes it has.
+#[derive(Clone, Copy, Debug, Default, PartialEq, Eq)]
+pub struct Fields {
+    pub count: usize,
+    pub kind: u8,
+    pub requester: u16,
+    pub address: u64,
+    pub data: u32,
+    pub pin: u8,
+    pub level: u8,
 }
 
 /// What else a call of the player gave: how many bytes it took, whether a
@@ -273,6 +340,15 @@ impl Outcome {
             value: None,
             count: None,
             played: None,
+            found: None,
+        }
+    }
+
+    /// The outcome of a question.
+    pub fn found(refusal: u8, found: Found) -> Outcome {
+        Outcome {
+            found: Some(found),
+            ..Outcome::number(refusal)
         }
     }
 

@@ -4,6 +4,7 @@ mod damage;
 mod interface;
 mod interrupts;
 mod log;
+mod query;
 mod starts;
 mod switch;
 
@@ -19,12 +20,13 @@ use crate::world::{Part, World, ROOM};
 /// The result of running trials.
 type Run = Result<(), Box<Failure>>;
 
-/// Runs all directed trials of cards, of switches or of logs.
+/// Runs all directed trials of cards, of switches, of logs or of queries.
 pub fn run(runner: &mut Runner<'_>) -> Run {
     match runner.subject {
         Subject::Card => run_cards(runner),
         Subject::Switch => switch::run(runner),
         Subject::Log => log::run(runner),
+        Subject::Query => query::run(runner),
     }
 }
 

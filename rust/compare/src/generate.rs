@@ -2,6 +2,7 @@
 //! is in, so that they reach something.
 
 mod log;
+mod query;
 mod switch;
 
 use crate::call::{Call, Damage, Given, Image, Room, Step, Subject};
@@ -31,6 +32,7 @@ pub fn trial(subject: Subject, seed: u64, trial: u64) -> Box<dyn Generator> {
         Subject::Card => Box::new(CardGenerator::new(random)),
         Subject::Switch => Box::new(switch::SwitchGenerator::new(random)),
         Subject::Log => Box::new(log::LogGenerator::new(random)),
+        Subject::Query => Box::new(query::QueryGenerator::new(random)),
     }
 }
 

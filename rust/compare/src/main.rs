@@ -1,8 +1,9 @@
 //! `compare --calls N --seed S`: the comparison of cards, then that of
-//! switches, then that of logs. Each runs its directed trials, then random ones
-//! until it has made N calls, or played N records of logs. `--directed 0` leaves
-//! out the directed ones, and `--trial K` runs only random trial K. `--cards 0`,
-//! `--switches 0` or `--logs 0` leaves out a comparison.
+//! switches, then that of logs, then that of queries. Each runs its directed
+//! trials, then random ones until it has made N calls, or played N records of
+//! logs. `--directed 0` leaves out the directed ones, and `--trial K` runs only
+//! random trial K. `--cards 0`, `--switches 0`, `--logs 0` or `--queries 0`
+//! leaves out a comparison.
 
 use compare::call::Subject;
 use compare::directed;
@@ -18,12 +19,12 @@ use std::time::{Duration, Instant};
 
 const USAGE: &str = "\
 usage: compare [--calls N] [--seed S] [--directed 0|1] [--trial K]
-               [--cards 0|1] [--switches 0|1] [--logs 0|1]
+               [--cards 0|1] [--switches 0|1] [--logs 0|1] [--queries 0|1]
 
-Compares cards, then switches, N calls each, then logs, N records: directed
-trials, then random ones. --trial K runs only random trial K of each. A million
-records of logs alone, and each kind of record by its refusals:
-compare --cards 0 --switches 0 --calls 1000000";
+Compares cards, then switches, N calls each, then logs, N records, then queries,
+N calls: directed trials, then random ones. --trial K runs only random trial K
+of each. A million records of logs alone, and each kind of record by its
+refusals: compare --cards 0 --switches 0 --queries 0 --calls 1000000";
 
 /// What the command line asks for.
 struct Options {
@@ -34,6 +35,7 @@ struct Options {
     cards: bool,
     switches: bool,
     logs: bool,
+    queries: bool,
 }
 
 /// Reads the command line.
@@ -46,6 +48,7 @@ fn options() -> Option<Options> {
         cards: true,
         switches: true,
         logs: true,
+        queries: true,
     };
     let mut words = env::args().skip(1);
     while let Some(word) = words.next() {
@@ -58,6 +61,7 @@ fn options() -> Option<Options> {
             "--cards" => options.cards = number != 0,
             "--switches" => options.switches = number != 0,
             "--logs" => options.logs = number != 0,
+            "--queries" => options.queries = number != 0,
             _ => return None,
         }
     }
@@ -153,7 +157,8 @@ fn main() -> ExitCode {
     let cards = !options.cards || compare(Subject::Card, &options);
     let switches = !options.switches || compare(Subject::Switch, &options);
     let logs = !options.logs || compare(Subject::Log, &options);
-    match cards && switches && logs {
+    let queries = !options.queries || compare(Subject::Query, &options);
+    match cards && switches && logs && queries {
         true => ExitCode::SUCCESS,
         false => ExitCode::FAILURE,
     }

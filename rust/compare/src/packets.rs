@@ -1,4 +1,4 @@
-//! Packets that cards send, for the calls of switches.
+//! Packets that cards send, for the calls of switches and for queries.
 
 use musgarento::Packet;
 
@@ -31,6 +31,30 @@ pub fn message(requester: u16, address: u64, data: u32) -> Vec<u8> {
         data,
     };
     packet.bytes().expect("a message has no pin")
+}
+
+/// The bytes with address bits 1:0 cleared, if they are those of a message.
+pub fn aligned(packet: &[u8]) -> Vec<u8> {
+    let mut bytes = packet.to_vec();
+    let last = match packet.first() {
+        Some(0x40) => bytes.get_mut(SHORT_ADDRESS_AT + 3),
+        Some(0x60) => bytes.get_mut(LONG_ADDRESS_AT + 3),
+        _ => None,
+    };
+    if let Some(byte) = last {
+        *byte &= !3;
+    }
+    bytes
+}
+
+/// A packet of each layout.
+pub fn samples(requester: u16) -> [Vec<u8>; 4] {
+    [
+        message(requester, 0xFEE0_0000, 0x49A1),
+        message(requester, 0x1_FEE0_1000, 0x31),
+        wire(true, 1, requester),
+        wire(false, 4, requester),
+    ]
 }
 
 /// The card pin of a port, 0 to 7, that becomes an upstream pin.

@@ -1,7 +1,7 @@
 //! Both models side by side: each step is made on both, and everything is
 //! compared after it.
 
-use crate::call::{Call, Damage, Image, Outcome, Room, Step};
+use crate::call::{Call, Damage, Found, Image, Outcome, Room, Step};
 use crate::second;
 use crate::world::{other_flags, World, PARTS};
 use std::collections::BTreeMap;
@@ -113,12 +113,12 @@ impl<'a> Pair<'a> {
         })
     }
 
-    /// The image of a restore; empty for other calls.
+    /// The image that a call reads; empty for other calls.
     pub fn image_of(&self, call: &Call) -> Vec<u8> {
-        match call {
-            Call::Restore(Image::Bytes(bytes)) => bytes.clone(),
-            Call::Restore(Image::Kept(number, damage)) => damaged(self.image(*number), damage),
-            _ => Vec::new(),
+        match call.image() {
+            Some(Image::Bytes(bytes)) => bytes.clone(),
+            Some(Image::Kept(number, damage)) => damaged(self.image(*number), damage),
+            None => Vec::new(),
         }
     }
 
@@ -222,7 +222,30 @@ pub fn outcome_text(outcome: &Outcome) -> String {
             (ended, number) => format!(", ended {ended}, refusal {number}"),
         };
     }
+    if let Some(found) = outcome.found {
+        text += &found_text(&found);
+    }
     text
+}
+
+/// What a query found, to be put behind the refusal.
+fn found_text(found: &Found) -> String {
+    match found {
+        Found::Lengths(lengths) => format!(
+            ", N {}, table {}, pending array {}",
+            lengths.vectors, lengths.table, lengths.pending
+        ),
+        Found::Packet(fields) => format!(
+            ", count {}, kind {}, requester {:04X}h, address {:X}h, data {:X}h, pin {}, level {}",
+            fields.count,
+            fields.kind,
+            fields.requester,
+            fields.address,
+            fields.data,
+            fields.pin,
+            fields.level
+        ),
+    }
 }
 
 /// Lists the first bytes in which two parts differ.

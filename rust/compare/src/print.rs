@@ -1,6 +1,8 @@
 //! Prints a trial so that a person can follow and replay it.
 
-use crate::call::{Call, Damage, Given, Image, LogCall, Recorded, Recording, Step, SwitchCall};
+use crate::call::{
+    Call, Damage, Given, Image, LogCall, QueryCall, Recorded, Recording, Step, SwitchCall,
+};
 use crate::pair::{outcome_text, Pair};
 use crate::second;
 use musgarento::Packets;
@@ -94,9 +96,27 @@ fn call_text(call: &Call) -> String {
         &Call::Line(level) => format!("line {}", number_text(level)),
         Call::Reset => "reset".to_string(),
         Call::Save(number) => format!("save as image {number}"),
-        Call::Restore(image) => image_text(image),
+        Call::Restore(image) => format!("restore of {}", image_text(image)),
         Call::Switch(call) => switch_call_text(call),
         Call::Log(call) => log_call_text(call),
+        Call::Query(call) => query_text(call),
+    }
+}
+
+/// A question with what it is about.
+fn query_text(call: &QueryCall) -> String {
+    match call {
+        QueryCall::ConfigLengths(config) => {
+            let count = config.len();
+            format!(
+                "lengths of a configuration of {count} bytes, {}",
+                bytes_text(config)
+            )
+        }
+        QueryCall::ImageLengths(image) => format!("lengths of {}", image_text(image)),
+        QueryCall::Packet(bytes) => {
+            format!("first packet of {} bytes: {}", bytes.len(), hex_text(bytes))
+        }
     }
 }
 
@@ -191,10 +211,10 @@ fn start_text(given: &Given) -> String {
 fn image_text(image: &Image) -> String {
     match image {
         Image::Bytes(bytes) => {
-            format!("restore of {} bytes, {}", bytes.len(), bytes_text(bytes))
+            format!("{} bytes, {}", bytes.len(), bytes_text(bytes))
         }
         Image::Kept(number, damage) => {
-            let mut text = format!("restore of image {number}");
+            let mut text = format!("image {number}");
             for change in damage {
                 let _ = match change {
                     Damage::Byte(at, value) => write!(text, ", byte {at} := {value:02X}"),

@@ -1,7 +1,9 @@
-//! The proved card, the proved switch and the proved player and recorder of
-//! logs, through the C interface.
+//! The proved card, the proved switch, the proved player and recorder of logs
+//! and what reads lengths and packets, through the C interface.
 
-use crate::call::{Call, LogCall, Outcome, Played, Recording, SwitchCall};
+use crate::call::{
+    Call, Fields, Found, Lengths, LogCall, Outcome, Played, QueryCall, Recording, SwitchCall,
+};
 use crate::recorded;
 use crate::world::World;
 use musgarento::raw;
@@ -10,11 +12,12 @@ use musgarento::raw;
 /// not set.
 const UNSET: u8 = 0xB7;
 
-/// Makes a call. `image` is the image of a restore.
+/// Makes a call. `image` is the image that it reads.
 pub fn apply(world: &mut World, call: &Call, image: &[u8]) -> Outcome {
     match call {
         Call::Switch(call) => apply_to_switch(world, call),
         Call::Log(call) => apply_to_log(world, call),
+        Call::Query(call) => query(call, image),
         _ => apply_to_card(world, call, image),
     }
 }
@@ -90,7 +93,9 @@ fn apply_to_card(world: &mut World, call: &Call, image: &[u8]) -> Outcome {
             Outcome::wrote(refusal, count)
         }
         Call::Restore(_) => Outcome::number(raw::restore(card, table, pending, image)),
-        Call::Switch(_) | Call::Log(_) => unreachable!("these are made elsewhere"),
+        Call::Switch(_) | Call::Log(_) | Call::Query(_) => {
+            unreachable!("these are made elsewhere")
+        }
     }
 }
 
@@ -161,4 +166,51 @@ fn play(world: &mut World, bytes: &[u8]) -> Outcome {
         }),
         ..Outcome::wrote(stopped, count)
     }
+}
+
+/// Answers a question.
+fn query(call: &QueryCall, image: &[u8]) -> Outcome {
+    match call {
+        QueryCall::ConfigLengths(config) => lengths(raw::config_lengths, config),
+        QueryCall::ImageLengths(_) => lengths(raw::image_lengths, image),
+        QueryCall::Packet(bytes) => packet(bytes),
+    }
+}
+
+/// A function that reads lengths.
+type Read = fn(&[u8], &mut usize, &mut usize, &mut usize) -> u8;
+
+fn lengths(read: Read, bytes: &[u8]) -> Outcome {
+    let unset = usize::from(UNSET);
+    let (mut vectors, mut table, mut pending) = (unset, unset, unset);
+    let refusal = read(bytes, &mut vectors, &mut table, &mut pending);
+    let lengths = Lengths {
+        vectors,
+        table,
+        pending,
+    };
+    Outcome::found(refusal, Found::Lengths(lengths))
+}
+
+fn packet(bytes: &[u8]) -> Outcome {
+    let mut fields = Fields {
+        count: UNSET.into(),
+        kind: UNSET,
+        requester: UNSET.into(),
+        address: UNSET.into(),
+        data: UNSET.into(),
+        pin: UNSET,
+        level: UNSET,
+    };
+    let refusal = raw::packet(
+        bytes,
+        &mut fields.count,
+        &mut fields.kind,
+        &mut fields.requester,
+        &mut fields.address,
+        &mut fields.data,
+        &mut fields.pin,
+        &mut fields.level,
+    );
+    Outcome::found(refusal, Found::Packet(fields))
 }

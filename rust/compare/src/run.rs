@@ -13,7 +13,7 @@ pub struct Failure {
     pub difference: Difference,
 }
 
-/// Runs trials of cards, of switches or of logs against a model.
+/// Runs trials of cards, of switches, of logs or of queries against a model.
 pub struct Runner<'a> {
     pub subject: Subject,
     pub model: Model<'a>,

@@ -1,6 +1,7 @@
 //! The second model behind the same interface of bytes.
 
 mod log;
+mod query;
 mod switch;
 
 pub use log::{is_player, record_bytes, Left};
@@ -11,8 +12,8 @@ use crate::recorded;
 use crate::world::{other_flags, World, CARD_BYTES, CONFIG_AT, SIZES_AT};
 use second_model::{Answer, Card};
 
-/// The number for wrong lengths of card, configuration or sizes, and for bytes
-/// that no switch or player has.
+/// The number for wrong lengths of card, configuration or sizes, for bytes that
+/// no switch or player has, and for those that begin with no packet.
 const LENGTHS: u8 = 60;
 
 /// The card in these bytes; `None` if a card has another number of bytes.
@@ -52,7 +53,7 @@ pub fn is_sound(world: &World) -> bool {
         .is_some_and(|card| second_model::is_sound(&card, &world.table, &world.pending))
 }
 
-/// Makes a call. `image` is the image of a restore.
+/// Makes a call. `image` is the image that it reads.
 pub fn apply(world: &mut World, call: &Call, image: &[u8]) -> Outcome {
     match call {
         Call::Start(given) => return start(world, given),
@@ -63,6 +64,7 @@ pub fn apply(world: &mut World, call: &Call, image: &[u8]) -> Outcome {
             return Outcome::read(0, 1);
         }
         Call::Log(call) => return log::apply(world, call),
+        Call::Query(call) => return query::apply(call, image),
         _ => {}
     }
     let Some(mut card) = read_card(&world.card) else {
@@ -106,7 +108,7 @@ fn apply_to_card(
         ..
     } = world;
     match *call {
-        Call::Start(_) | Call::Switch(_) | Call::Log(_) => {
+        Call::Start(_) | Call::Switch(_) | Call::Log(_) | Call::Query(_) => {
             unreachable!("these are made elsewhere")
         }
         Call::ConfigRead { offset, width } => {

@@ -1,6 +1,6 @@
 //! Cuts a failing trial down to a short one that still fails.
 
-use crate::call::{Call, Given, Image, LogCall, Recorded, Room, Step, SwitchCall};
+use crate::call::{Call, Given, Image, LogCall, QueryCall, Recorded, Room, Step, SwitchCall};
 use crate::pair::{Difference, Model, Pair};
 use crate::world::PARTS;
 use std::time::{Duration, Instant};
@@ -61,10 +61,10 @@ pub fn alone(model: Model<'_>, steps: &[Step]) -> Option<Failing> {
         .into_iter()
         .map(|part| Step::Contents(part, pair.world().part(part).clone()))
         .collect();
-    let call = match call {
-        Call::Restore(_) => Call::Restore(Image::Bytes(image)),
-        other => other.clone(),
-    };
+    let mut call = call.clone();
+    if let Some(kept) = call.image_mut() {
+        *kept = Image::Bytes(image);
+    }
     steps.push(Step::Call(call, Room::Bytes(length)));
     let mut search = Search::new(model, failing(model, &steps)?);
     search.simplify();
@@ -217,10 +217,24 @@ fn piece(step: &mut Step) -> Option<&mut Vec<u8>> {
 /// The bytes in a step, if it has some.
 fn bytes_of(step: &mut Step) -> Option<&mut Vec<u8>> {
     match step {
-        Step::Contents(_, bytes) | Step::Call(Call::Restore(Image::Bytes(bytes)), _) => Some(bytes),
-        Step::Call(Call::Start(given), _) => Some(&mut given.config),
-        Step::Call(Call::Switch(SwitchCall::Packet { packet, .. }), _) => Some(packet),
-        other => piece(other),
+        Step::Contents(_, bytes) => Some(bytes),
+        Step::Call(call, _) => bytes_of_call(call),
+        _ => None,
+    }
+}
+
+fn bytes_of_call(call: &mut Call) -> Option<&mut Vec<u8>> {
+    match call {
+        Call::Restore(Image::Bytes(bytes))
+        | Call::Log(LogCall::Play(bytes))
+        | Call::Switch(SwitchCall::Packet { packet: bytes, .. })
+        | Call::Query(
+            QueryCall::ConfigLengths(bytes)
+            | QueryCall::ImageLengths(Image::Bytes(bytes))
+            | QueryCall::Packet(bytes),
+        ) => Some(bytes),
+        Call::Start(given) => Some(&mut given.config),
+        _ => None,
     }
 }
 
@@ -258,15 +272,16 @@ fn simpler_calls(call: &Call) -> Vec<Call> {
                 value: value as u32,
             }),
         ),
-        Call::Restore(Image::Kept(number, damage)) => calls.extend((0..damage.len()).map(|at| {
-            let mut damage = damage.clone();
-            damage.remove(at);
-            Call::Restore(Image::Kept(*number, damage))
-        })),
-        Call::Log(LogCall::Play(bytes)) => calls.extend(shorter_pieces(bytes)),
+        Call::Log(LogCall::Play(bytes)) => {
+            calls.extend(shorter(bytes).map(|bytes| Call::Log(LogCall::Play(bytes))))
+        }
+        Call::Query(QueryCall::Packet(bytes)) => {
+            calls.extend(shorter(bytes).map(|bytes| Call::Query(QueryCall::Packet(bytes))))
+        }
         Call::Log(LogCall::Trial(trial)) => calls.extend(without_a_call(trial)),
         _ => {}
     }
+    calls.extend(without_a_damage(call));
     calls
 }
 
@@ -297,14 +312,30 @@ fn numbers(call: &mut Call) -> Vec<&mut u64> {
             &mut recording.width,
             &mut recording.value,
         ],
-        Call::Reset | Call::Save(_) | Call::Restore(_) | Call::Log(_) => Vec::new(),
+        Call::Reset | Call::Save(_) | Call::Restore(_) | Call::Log(_) | Call::Query(_) => {
+            Vec::new()
+        }
     }
 }
 
-/// Pieces of a log cut at the end, short ones first.
-fn shorter_pieces(bytes: &[u8]) -> impl Iterator<Item = Call> + '_ {
-    let piece = |length: usize| Call::Log(LogCall::Play(bytes[..length].to_vec()));
-    (0..bytes.len()).map(piece)
+/// The bytes cut at the end, short ones first.
+fn shorter(bytes: &[u8]) -> impl Iterator<Item = Vec<u8>> + '_ {
+    (0..bytes.len()).map(|length| bytes[..length].to_vec())
+}
+
+/// Calls with one change of their image left out.
+fn without_a_damage(call: &Call) -> Vec<Call> {
+    let Some(Image::Kept(_, damage)) = call.image() else {
+        return Vec::new();
+    };
+    let without = |at: usize| {
+        let mut call = call.clone();
+        if let Some(Image::Kept(_, damage)) = call.image_mut() {
+            damage.remove(at);
+        }
+        call
+    };
+    (0..damage.len()).map(without).collect()
 }
 
 /// Recorded trials with one call left out.

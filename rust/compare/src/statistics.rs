@@ -2,9 +2,10 @@
 
 mod card;
 mod log;
+mod query;
 mod switch;
 
-use crate::call::Subject;
+use crate::call::{Call, Subject};
 use crate::pair::Made;
 use std::collections::BTreeMap;
 
@@ -40,6 +41,7 @@ impl Statistics {
             Subject::Card => (card::tables(), &card::NAMED[..]),
             Subject::Switch => (switch::tables(), &switch::NAMED[..]),
             Subject::Log => (log::tables(), &log::NAMED[..]),
+            Subject::Query => (query::tables(), &query::NAMED[..]),
         };
         Statistics {
             calls: 0,
@@ -55,18 +57,23 @@ impl Statistics {
     /// How far the run is: the number of calls, or of records played.
     pub fn done(&self) -> u64 {
         match self.subject {
-            Subject::Card | Subject::Switch => self.calls,
+            Subject::Card | Subject::Switch | Subject::Query => self.calls,
             Subject::Log => self.sums.records,
         }
     }
 
-    /// Counts a call.
+    /// Counts a call. Between queries the card's own calls do not count.
     pub fn count(&mut self, made: &Made<'_>) {
+        let is_query = matches!(made.call, Call::Query(_));
+        if self.subject == Subject::Query && !is_query {
+            return;
+        }
         self.calls += 1;
         match self.subject {
             Subject::Card => self.count_card(made),
             Subject::Switch => self.count_switch(made),
             Subject::Log => self.count_log(made),
+            Subject::Query => self.count_query(made),
         }
     }
 

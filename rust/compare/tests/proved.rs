@@ -1,5 +1,5 @@
-//! Short comparisons with the proved card, the proved switch and the proved
-//! player and recorder of logs, and what they meet.
+//! Short comparisons with the proved card, the proved switch, the proved player
+//! and recorder of logs and what reads lengths and packets, and what they meet.
 
 use compare::call::Subject;
 use compare::generate::start_steps;
@@ -39,6 +39,11 @@ fn short_comparison_of_switches() {
 #[test]
 fn short_comparison_of_logs() {
     short_comparison(Subject::Log);
+}
+
+#[test]
+fn short_comparison_of_queries() {
+    short_comparison(Subject::Query);
 }
 
 #[test]

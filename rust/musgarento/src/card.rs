@@ -1,8 +1,8 @@
 //! The card.
 
 use crate::layout::{
-    image_vectors, packet_bytes, pending_bytes, table_bytes, vectors, CARD_BYTES, COMMAND_AT,
-    EVENTS_AT, FIXED_BYTES, MSI_WAITING_AT, REQUESTER_AT,
+    packet_bytes, Lengths, CARD_BYTES, COMMAND_AT, EVENTS_AT, FIXED_BYTES, MSI_WAITING_AT,
+    REQUESTER_AT,
 };
 use crate::packet::Packets;
 use crate::raw;
@@ -110,19 +110,19 @@ impl fmt::Debug for Card {
 }
 
 impl Card {
-    /// A card that is not started, with buffers for `vectors` vectors.
-    fn blank(vectors: usize) -> Card {
+    /// A card that is not started, with buffers of these lengths.
+    fn blank(lengths: Lengths) -> Card {
         Card {
             state: [0; CARD_BYTES],
-            table: vec![0; table_bytes(vectors)],
-            pending: vec![0; pending_bytes(vectors)],
-            out: vec![0; packet_bytes(vectors)],
+            table: vec![0; lengths.table],
+            pending: vec![0; lengths.pending],
+            out: vec![0; packet_bytes(lengths.vectors)],
         }
     }
 
     /// Starts a card.
     pub fn start(start: &Start) -> Result<Card, StartError> {
-        let mut card = Card::blank(vectors(&start.config));
+        let mut card = Card::blank(Lengths::of_config(&start.config));
         accepted(raw::start(
             &mut card.state,
             &start.config,
@@ -137,8 +137,8 @@ impl Card {
 
     /// The card of an image.
     pub fn from_image(image: &[u8]) -> Result<Card, ImageError> {
-        let mut card = Card::blank(image_vectors(image));
-        accepted(card.restored(image))?;
+        let mut card = Card::blank(Lengths::of_image(image)?);
+        never_refused(card.restored(image));
         Ok(card)
     }
 

@@ -1,8 +1,7 @@
-//! Lengths and places, and how many vectors a configuration has.
-//!
-//! The lengths only size the buffers to lend. The proved code works them out
-//! for itself and refuses others.
+//! Lengths and places, and the lengths of the buffers that a card asks for.
 
+use crate::raw;
+use crate::refusal::{accepted, never_refused, ImageError};
 use std::ops::Range;
 
 /// The bytes of a card in the C interface.
@@ -47,9 +46,6 @@ pub const IMAGE_BYTES: usize = 33_318;
 /// The bytes of an image without the table and the pending array.
 pub const FIXED_BYTES: usize = 294;
 
-/// Where the configuration bytes stand in an image.
-const CONFIG_AT: usize = 38;
-
 /// The most vectors that MSI has.
 const MSI_VECTORS: usize = 32;
 
@@ -57,48 +53,39 @@ const MSI_VECTORS: usize = 32;
 const WIRE_BYTES: usize = 16;
 const MESSAGE_BYTES: usize = 20;
 
-/// Capability ID of MSI-X.
-const MSIX_ID: u8 = 0x11;
+/// The number of a card's MSI-X vectors, and the lengths of its buffers.
+#[derive(Clone, Copy, Debug, Default, PartialEq, Eq)]
+pub struct Lengths {
+    pub vectors: usize,
+    pub table: usize,
+    pub pending: usize,
+}
 
-/// The most capabilities of a list.
-const MOST: usize = 48;
-
-/// N: MSI-X Table Size + 1, or 0 with no MSI-X. Of a configuration that a
-/// start refuses it is any number.
-pub fn vectors(config: &[u8; 256]) -> usize {
-    if config[0x06] & 0x10 == 0 {
-        return 0;
+impl Lengths {
+    /// The lengths that a start from this configuration asks for. Of one with a
+    /// broken list, which a start refuses, all are 0.
+    pub fn of_config(config: &[u8; 256]) -> Lengths {
+        let mut lengths = Lengths::default();
+        never_refused(raw::config_lengths(
+            config,
+            &mut lengths.vectors,
+            &mut lengths.table,
+            &mut lengths.pending,
+        ));
+        lengths
     }
-    let mut at = usize::from(config[0x34] & 0xFC);
-    for _ in 0..MOST {
-        if at < 0x40 {
-            break;
-        }
-        if config[at] == MSIX_ID {
-            let control = u16::from_le_bytes([config[at + 2], config[at + 3]]);
-            return usize::from(control & 0x7FF) + 1;
-        }
-        at = usize::from(config[at + 1] & 0xFC);
+
+    /// The lengths that a restore of this image asks for.
+    pub fn of_image(image: &[u8]) -> Result<Lengths, ImageError> {
+        let mut lengths = Lengths::default();
+        accepted(raw::image_lengths(
+            image,
+            &mut lengths.vectors,
+            &mut lengths.table,
+            &mut lengths.pending,
+        ))?;
+        Ok(lengths)
     }
-    0
-}
-
-/// The vectors of an image's card; 0 if the image is too short to tell.
-pub fn image_vectors(image: &[u8]) -> usize {
-    image
-        .get(CONFIG_AT..FIXED_BYTES)
-        .and_then(|bytes| bytes.try_into().ok())
-        .map_or(0, vectors)
-}
-
-/// The length of a table of `vectors` entries.
-pub fn table_bytes(vectors: usize) -> usize {
-    16 * vectors
-}
-
-/// The length of a pending array of `vectors` bits.
-pub fn pending_bytes(vectors: usize) -> usize {
-    8 * vectors.div_ceil(64)
 }
 
 /// The most bytes of packets that a call makes on a card of `vectors` MSI-X
@@ -110,6 +97,10 @@ pub fn packet_bytes(vectors: usize) -> usize {
 #[cfg(test)]
 mod tests {
     use super::*;
+
+    fn vectors(config: &[u8; 256]) -> usize {
+        Lengths::of_config(config).vectors
+    }
 
     #[test]
     fn vectors_of_a_list() {
@@ -133,14 +124,18 @@ mod tests {
         config[0x34] = 0x40;
         config[0x41] = 0x40;
         assert_eq!(vectors(&config), 0);
+        config[0x40] = 0x11;
+        assert_eq!(vectors(&config), 0);
     }
 
     #[test]
     fn longest() {
-        let buffers = table_bytes(2048) + pending_bytes(2048);
-        assert_eq!(FIXED_BYTES + buffers, IMAGE_BYTES);
-        assert_eq!(packet_bytes(2048), PACKET_BYTES);
-        assert_eq!(pending_bytes(65), 16);
-        assert_eq!(pending_bytes(0), 0);
+        let mut config = [0; 256];
+        config[0x06] = 0x10;
+        config[0x34] = 0x40;
+        config[0x40..0x44].copy_from_slice(&[0x11, 0x00, 0xFF, 0x07]);
+        let lengths = Lengths::of_config(&config);
+        assert_eq!(FIXED_BYTES + lengths.table + lengths.pending, IMAGE_BYTES);
+        assert_eq!(packet_bytes(lengths.vectors), PACKET_BYTES);
     }
 }

@@ -49,9 +49,9 @@
 //! host that has wider ones converts them with `try_from`, since `as` would cut
 //! them, or calls the functions of [`raw`], which take 64 bits.
 //!
-//! The model itself is the static libraries `capi`, `capi_switch` and
-//! `capi_log`, proved in Rattle; this crate only lends them buffers and names
-//! their numbers.
+//! The model itself is the static libraries `capi`, `capi_switch`, `capi_log` and
+//! `capi_query`, proved in Rattle; this crate only lends them buffers, of the
+//! lengths that they ask for, and names their numbers.
 
 #![warn(missing_docs)]
 #![deny(unsafe_code)]

@@ -1,5 +1,6 @@
 //! The packets that a card or a switch sends.
 
+use crate::raw;
 use std::fmt;
 use std::iter::{self, FusedIterator};
 
@@ -33,31 +34,38 @@ pub enum Packet {
 
 impl Packet {
     /// Reads the packet at the start of `bytes`, and gives the bytes behind
-    /// it too; `None` if no packet stands there.
+    /// it too; `None` if no packet stands there. An address with bits 1:0 set is
+    /// in no packet.
     pub fn read(bytes: &[u8]) -> Option<(Packet, &[u8])> {
-        match bytes {
-            [0x40, 0, 0, 1, a, b, 0, 0x0F, rest @ ..] => {
-                let (low, rest) = word(rest)?;
-                message([*a, *b], 0, low, rest)
-            }
-            [0x60, 0, 0, 1, a, b, 0, 0x0F, rest @ ..] => {
-                let (high, rest) = word(rest)?;
-                let (low, rest) = word(rest)?;
-                // An address below 4 GiB has the short form.
-                if high == [0; 4] {
-                    return None;
-                }
-                message([*a, *b], u32::from_be_bytes(high), low, rest)
-            }
-            [0x34, 0, 0, 0, a, b, 0, code, 0, 0, 0, 0, 0, 0, 0, 0, rest @ ..] => {
-                let requester = u16::from_be_bytes([*a, *b]);
-                Some((wire(requester, *code)?, rest))
-            }
-            _ => None,
+        let (mut count, mut kind, mut requester) = (0, 0, 0);
+        let (mut address, mut data, mut pin, mut level) = (0, 0, 0, 0);
+        let refusal = raw::packet(
+            bytes,
+            &mut count,
+            &mut kind,
+            &mut requester,
+            &mut address,
+            &mut data,
+            &mut pin,
+            &mut level,
+        );
+        if refusal != 0 {
+            return None;
         }
+        let packet = match (kind, level) {
+            (raw::PACKET_MESSAGE, _) => Packet::Message {
+                requester,
+                address,
+                data,
+            },
+            (_, 0) => Packet::Deassert { requester, pin },
+            _ => Packet::Assert { requester, pin },
+        };
+        Some((packet, &bytes[count..]))
     }
 
-    /// The bytes of the packet, 16 or 20; `None` if the pin is not 1 to 4.
+    /// The bytes of the packet, 16 or 20; `None` if the pin is not 1 to 4. An
+    /// address is written as it is.
     pub fn bytes(&self) -> Option<Vec<u8>> {
         match *self {
             Packet::Message {
@@ -77,38 +85,6 @@ impl Packet {
             | Packet::Assert { requester, .. }
             | Packet::Deassert { requester, .. } => requester,
         }
-    }
-}
-
-/// The first four bytes, and those behind them.
-fn word(bytes: &[u8]) -> Option<([u8; 4], &[u8])> {
-    let (word, rest) = bytes.split_first_chunk::<4>()?;
-    Some((*word, rest))
-}
-
-/// A message whose data stands at the start of `rest`.
-fn message(requester: [u8; 2], high: u32, low: [u8; 4], rest: &[u8]) -> Option<(Packet, &[u8])> {
-    let (data, rest) = word(rest)?;
-    let packet = Packet::Message {
-        requester: u16::from_be_bytes(requester),
-        address: u64::from(high) << 32 | u64::from(u32::from_be_bytes(low)),
-        data: u32::from_le_bytes(data),
-    };
-    Some((packet, rest))
-}
-
-/// The wire packet with this code.
-fn wire(requester: u16, code: u8) -> Option<Packet> {
-    match code {
-        0x20..=0x23 => Some(Packet::Assert {
-            requester,
-            pin: code - 0x1F,
-        }),
-        0x24..=0x27 => Some(Packet::Deassert {
-            requester,
-            pin: code - 0x23,
-        }),
-        _ => None,
     }
 }
 
@@ -296,6 +272,8 @@ mod tests {
         };
         assert!(!changed(&SHORT, 3, 2));
         assert!(!changed(&SHORT, 7, 0xFF));
+        assert!(!changed(&SHORT, 11, 1));
+        assert!(!changed(&LONG, 15, 2));
         assert!(!changed(&LONG, 11, 0));
         assert!(!changed(&WIRE, 7, 0x1F));
         assert!(!changed(&WIRE, 7, 0x28));

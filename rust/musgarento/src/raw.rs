@@ -22,10 +22,12 @@
 
 mod card;
 mod log;
+mod query;
 mod switch;
 
 pub use card::{
     bar_read, bar_write, config_read, config_write, event, line, reset, restore, save, start,
 };
 pub use log::{log_begin, log_record, play};
+pub use query::{config_lengths, image_lengths, packet, PACKET_MESSAGE, PACKET_WIRE};
 pub use switch::{switch_down, switch_packet, switch_start};

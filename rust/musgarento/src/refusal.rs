@@ -63,7 +63,9 @@ refusals! {
     Image = 22, "any other image that no sound card saves";
     Log = 30, "wrong byte of mark, version, kind or line; or a player that no log leaves behind";
     PortPacket = 50, "port above 7, bytes that are no single packet, or a wire packet with a device number other than 0";
-    Lengths = 60, "card, configuration, sizes, switch or player of another length than 289, 256, 6, 10 and 25; bytes or requester that no switch has; first byte of a player, or flags of the card it plays on, above 3; or kind or value that no record has";
+    Lengths = 60, "card, configuration, sizes, switch or player of another length than 289, 256, 6, 10 and 25; \
+        bytes or requester that no switch has; first byte of a player, or flags of the card it plays on, above 3; \
+        kind or value that no record has; or bytes that begin with no packet";
 }
 
 impl Refusal {

@@ -186,9 +186,7 @@ impl MsiX {
     /// Reads the fixed fields of the MSI-X capability at `at`, which must not
     /// run past byte FFh.
     pub fn read(config: &[u8; 256], at: usize) -> MsiX {
-        let control = u16::from_le_bytes([config[at + 2], config[at + 3]]);
-        // 01: "N is MSI-X Table Size + 1, or 0 with no MSI-X."
-        let vectors = usize::from(control & 0x7FF) + 1;
+        let vectors = vectors_at(config, at);
         MsiX {
             at,
             vectors,
@@ -196,6 +194,14 @@ impl MsiX {
             pending: Region::read(config, at + 8, pending_bytes(vectors)),
         }
     }
+}
+
+// 01: "N is MSI-X Table Size + 1, or 0 with no MSI-X."
+/// N by the MSI-X capability at `at`. Its control register is in the
+/// configuration even if the structure runs past byte FFh.
+pub fn vectors_at(config: &[u8; 256], at: usize) -> usize {
+    let control = u16::from_le_bytes([config[at + 2], config[at + 3]]);
+    usize::from(control & 0x7FF) + 1
 }
 
 // 01: "table (16N bytes)"

@@ -6,7 +6,7 @@
 //!
 //! [`log`] is a model of request 1 of document 02, a player of recorded calls,
 //! and [`switch`] of request 4, a switch between cards and host; a sentence of
-//! that document is marked `02:`.
+//! that document is marked `02:`. [`query`] reads lengths and packets for a host.
 //!
 //! Numbers that a caller hands in may be wider than their fields, and each rule
 //! is applied to the whole number.
@@ -19,6 +19,7 @@ mod fields;
 mod image;
 pub mod log;
 mod packets;
+pub mod query;
 mod registers;
 mod settle;
 mod shape;

@@ -3,7 +3,7 @@
 //! Each rule stands beside the sentence of request 4 of document 02 that it
 //! follows, marked `02:`, or of document 01, marked `01:`.
 
-use crate::packets::{write_wire, WIRE_BYTES};
+use crate::packets::{single, write_wire, Contents, WIRE_BYTES};
 use crate::Outcome;
 
 // 02: "each port keeps four wires of its own"
@@ -13,12 +13,6 @@ pub struct Switch {
     pub requester: u16,
     /// The level of each port's wires; the wire of card pin p stands at p - 1.
     pub wires: [[bool; 4]; 8],
-}
-
-/// A packet that a port takes.
-enum Packet {
-    Message,
-    Wire { assert: bool, pin: usize },
 }
 
 /// Starts a switch, with no wire active. A refused start hands out none.
@@ -38,11 +32,11 @@ pub fn packet(switch: &mut Switch, port: u64, packet: &[u8], out: &mut [u8]) -> 
     };
     match read_packet(packet) {
         None => Outcome::refused(50),
-        Some(Packet::Message) => pass(packet, out),
+        Some(Contents::Message { .. }) => pass(packet, out),
         // 02: "A repeated Assert or Deassert changes nothing."
-        Some(Packet::Wire { assert, pin }) => {
+        Some(Contents::Wire { assert, pin }) => {
             let mut wires = switch.wires;
-            wires[port][pin - 1] = assert;
+            wires[port][usize::from(pin) - 1] = assert;
             change(switch, wires, out)
         }
     }
@@ -69,63 +63,16 @@ fn read_port(port: u64) -> Option<usize> {
 
 // 02: "bytes that are no single packet in 01's layouts (any requester, address
 // bits 1:0 zero)"
-/// The packet that these bytes are; `None` for one that is refused.
-fn read_packet(bytes: &[u8]) -> Option<Packet> {
-    if is_short_message(bytes) || is_long_message(bytes) {
-        return Some(Packet::Message);
-    }
-    if !has_wire_layout(bytes) {
-        return None;
-    }
+/// What the packet says that these bytes are; `None` for one that is refused.
+fn read_packet(bytes: &[u8]) -> Option<Contents> {
+    let packet = single(bytes)?;
     // 02: "or a wire packet with a device number other than 0"
     // The device number is bits 7:3 of the requester ID.
-    if bytes[5] >> 3 != 0 {
+    let is_wire = matches!(packet.contents, Contents::Wire { .. });
+    if is_wire && packet.requester >> 3 & 0x1F != 0 {
         return None;
     }
-    read_code(bytes[7])
-}
-
-// 01: "Message, upper address 0: 40 00 00 01, requester (high byte first), 00,
-// 0F, address high byte first, data low byte first: 16 bytes."
-fn is_short_message(bytes: &[u8]) -> bool {
-    bytes.len() == 16
-        && bytes[0..4] == [0x40, 0, 0, 1]
-        && bytes[6..8] == [0, 0x0F]
-        && bytes[11] & 3 == 0
-}
-
-// 01: "Upper address not 0: first byte 60, upper address before the lower: 20
-// bytes."
-fn is_long_message(bytes: &[u8]) -> bool {
-    bytes.len() == 20
-        && bytes[0..4] == [0x60, 0, 0, 1]
-        && bytes[6..8] == [0, 0x0F]
-        && bytes[8..12] != [0, 0, 0, 0]
-        && bytes[15] & 3 == 0
-}
-
-// 01: "Wire: 34 00 00 00, requester, 00, code, eight zeros: 16 bytes."
-/// Whether the bytes are a wire packet but for the code.
-fn has_wire_layout(bytes: &[u8]) -> bool {
-    bytes.len() == WIRE_BYTES
-        && bytes[0..4] == [0x34, 0, 0, 0]
-        && bytes[6] == 0
-        && bytes[8..16] == [0; 8]
-}
-
-// 01: "Code 1Fh + pin asserts, 23h + pin deasserts."
-fn read_code(code: u8) -> Option<Packet> {
-    for pin in 1..=4 {
-        if code == 0x1F + pin {
-            let (assert, pin) = (true, usize::from(pin));
-            return Some(Packet::Wire { assert, pin });
-        }
-        if code == 0x23 + pin {
-            let (assert, pin) = (false, usize::from(pin));
-            return Some(Packet::Wire { assert, pin });
-        }
-    }
-    None
+    Some(packet.contents)
 }
 
 // 02: "Message writes pass unchanged."

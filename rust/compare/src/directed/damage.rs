@@ -16,7 +16,7 @@ pub fn run(runner: &mut Runner<'_>) -> Run {
 }
 
 /// Cards in different states, each by the trial that makes it.
-fn cards() -> Vec<Trial> {
+pub(super) fn cards() -> Vec<Trial> {
     let fresh = Trial::start(&plain(1, Some(0x184), Some(2)));
     let mut wire = Trial::start(&plain(4, None, None));
     wire.line(1);
@@ -77,7 +77,7 @@ fn images(runner: &mut Runner<'_>, card: &Trial) -> Run {
 
 /// The image of a world's card, and the places to change: all of a small card,
 /// and the first and last entries of a larger one.
-fn image_bytes(world: &World) -> (Vec<u8>, Vec<usize>) {
+pub(super) fn image_bytes(world: &World) -> (Vec<u8>, Vec<usize>) {
     let mut image = vec![0x49, 0x52, 0x51, 1, 0];
     image.extend(&world.card);
     image.extend(&world.table);

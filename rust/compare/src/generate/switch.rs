@@ -152,10 +152,10 @@ impl SwitchGenerator {
                 let port = self.wide_port(port);
                 return SwitchCall::Down(port);
             }
-            2..=5 => self.message(),
+            2..=5 => random_message(&mut self.random),
             6..=8 => {
                 let packet = self.real_packet(pin);
-                self.spoilt(packet)
+                spoilt(&mut self.random, packet)
             }
             9 => {
                 let length = self.random.pick(&[0, 15, 16, 17, 20, 32]);
@@ -199,41 +199,39 @@ impl SwitchGenerator {
         wire(assert, pin, requester)
     }
 
-    /// A message of either form.
-    fn message(&mut self) -> Vec<u8> {
-        let random = &mut self.random;
-        let address = random.number() & random.pick(&[0xFFFF_FFFC, !3, 1 << 32 | 0xFFC]);
-        let (requester, data) = (random.number() as u16, random.number() as u32);
-        message(requester, address, data)
-    }
-
     fn real_packet(&mut self, pin: usize) -> Vec<u8> {
         match self.random.once_in(2) {
             true => self.wire(pin),
-            false => self.message(),
+            false => random_message(&mut self.random),
         }
     }
+}
 
-    /// A packet with one byte changed, or with more or fewer bytes.
-    fn spoilt(&mut self, mut packet: Vec<u8>) -> Vec<u8> {
-        let random = &mut self.random;
-        let low = random.pick(&[1, 2, 3]);
-        let is_wire = packet[0] == 0x34;
-        let is_long = packet[0] == 0x60;
-        match random.below(10) {
-            0 => packet.truncate(random.below(packet.len())),
-            1 => packet.extend(random.bytes(1)),
-            2 => packet.extend(packet.clone()),
-            3..=4 if is_wire => packet[DEVICE_AT] |= 1 << (3 + random.below(5)),
-            3 if is_long => packet[UPPER_AT..LONG_ADDRESS_AT].fill(0),
-            4 if is_long => packet[LONG_ADDRESS_AT + 3] |= low,
-            3..=4 => packet[SHORT_ADDRESS_AT + 3] |= low,
-            5..=7 => packet[random.below(8)] ^= 1 << random.below(8),
-            _ => {
-                let at = random.below(packet.len());
-                packet[at] ^= 1 << random.below(8);
-            }
+/// A message of either form.
+pub fn random_message(random: &mut Random) -> Vec<u8> {
+    let address = random.number() & random.pick(&[0xFFFF_FFFC, !3, 1 << 32 | 0xFFC]);
+    let (requester, data) = (random.number() as u16, random.number() as u32);
+    message(requester, address, data)
+}
+
+/// A packet with one byte changed, or with more or fewer bytes.
+pub fn spoilt(random: &mut Random, mut packet: Vec<u8>) -> Vec<u8> {
+    let low = random.pick(&[1, 2, 3]);
+    let is_wire = packet[0] == 0x34;
+    let is_long = packet[0] == 0x60;
+    match random.below(10) {
+        0 => packet.truncate(random.below(packet.len())),
+        1 => packet.extend(random.bytes(1)),
+        2 => packet.extend(packet.clone()),
+        3..=4 if is_wire => packet[DEVICE_AT] |= 1 << (3 + random.below(5)),
+        3 if is_long => packet[UPPER_AT..LONG_ADDRESS_AT].fill(0),
+        4 if is_long => packet[LONG_ADDRESS_AT + 3] |= low,
+        3..=4 => packet[SHORT_ADDRESS_AT + 3] |= low,
+        5..=7 => packet[random.below(8)] ^= 1 << random.below(8),
+        _ => {
+            let at = random.below(packet.len());
+            packet[at] ^= 1 << random.below(8);
         }
-        packet
     }
+    packet
 }

@@ -2,6 +2,7 @@
 
 use super::{Statistics, Table};
 use crate::call::{Call, Room, SwitchCall, SWITCH_KINDS};
+use crate::packets::aligned;
 use crate::pair::Made;
 use crate::wide;
 use crate::world::{PORTS_AT, SWITCH_BYTES};
@@ -232,12 +233,13 @@ fn sent<'a>(made: &Made<'a>) -> &'a [u8] {
 /// What is wrong with a packet, by its name; `None` if it is one that a port
 /// takes.
 fn wrong_packet(packet: &[u8]) -> Option<&'static str> {
-    match Packet::read(packet) {
+    let aligned = aligned(packet);
+    match Packet::read(&aligned) {
         None if packet.is_empty() => Some("50 for no bytes"),
         None => Some("50 for bytes that are no packet"),
         Some((_, [_, ..])) => Some("50 for bytes behind a packet"),
-        Some((Packet::Message { address, .. }, [])) => {
-            (address & 3 != 0).then_some("50 for address bits 1:0")
+        Some((Packet::Message { .. }, [])) => {
+            (aligned != packet).then_some("50 for address bits 1:0")
         }
         Some((wire, [])) => (wire.requester() >> 3 & 0x1F != 0).then_some("50 for a device number"),
     }

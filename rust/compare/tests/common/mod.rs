@@ -29,6 +29,7 @@ pub fn shortest(subject: Subject, model: Model<'_>) -> Vec<Step> {
         Subject::Card => (3, 8),
         Subject::Switch => (1, 8),
         Subject::Log => (4, 12),
+        Subject::Query => (3, 6),
     };
     assert!(call.steps.len() <= parts + 1);
     for left_out in 0..steps.len() {

@@ -4,12 +4,9 @@ use super::{assert, deassert, down, packet, Run, Trial, CARD};
 use crate::call::{Call, Room, Step};
 use crate::directed::wider;
 use crate::packets::{
-    message, wire, BUS_AT, CODE_AT, DEVICE_AT, LONG_ADDRESS_AT, SHORT_ADDRESS_AT, UPPER_AT,
+    samples, wire, BUS_AT, CODE_AT, DEVICE_AT, LONG_ADDRESS_AT, SHORT_ADDRESS_AT, UPPER_AT,
 };
 use crate::run::Runner;
-
-const SHORT_ADDRESS: u64 = 0xFEE0_0000;
-const LONG_ADDRESS: u64 = 0x1_FEE0_1000;
 
 pub fn run(runner: &mut Runner<'_>) -> Run {
     ports(runner)?;
@@ -20,16 +17,6 @@ pub fn run(runner: &mut Runner<'_>) -> Run {
     codes(runner)?;
     senders(runner)?;
     rooms(runner)
-}
-
-/// A packet of each layout.
-fn samples() -> [Vec<u8>; 4] {
-    [
-        message(CARD, SHORT_ADDRESS, 0x49A1),
-        message(CARD, LONG_ADDRESS, 0x31),
-        wire(true, 1, CARD),
-        wire(false, 4, CARD),
-    ]
 }
 
 /// A trial with two wires active, of upstream pins 1 and 4.
@@ -44,7 +31,7 @@ fn ports(runner: &mut Runner<'_>) -> Run {
     let mut trial = begun();
     let wide = [0, 4, 7].into_iter().flat_map(wider);
     for port in (0..=16).chain([255, 256, 263, 1 << 32]).chain(wide) {
-        for sample in samples() {
+        for sample in samples(CARD) {
             trial
                 .on(packet(port, &sample))
                 .room(packet(port, &sample), 0);
@@ -60,7 +47,7 @@ fn ports(runner: &mut Runner<'_>) -> Run {
 
 /// Each packet cut, and with zeros or other bytes behind it.
 fn lengths(runner: &mut Runner<'_>) -> Run {
-    for sample in samples() {
+    for sample in samples(CARD) {
         let mut trial = begun();
         for length in 0..=41 {
             for filler in [0, 0x34, 0xFF] {
@@ -76,7 +63,7 @@ fn lengths(runner: &mut Runner<'_>) -> Run {
 
 /// Each packet with each value of each byte.
 fn single_bytes(runner: &mut Runner<'_>) -> Run {
-    for sample in samples() {
+    for sample in samples(CARD) {
         let mut trial = begun();
         for at in 0..sample.len() {
             for value in 0..=255 {
@@ -93,8 +80,8 @@ fn single_bytes(runner: &mut Runner<'_>) -> Run {
 /// Two packets, and one with a part of another.
 fn two_at_once(runner: &mut Runner<'_>) -> Run {
     let mut trial = begun();
-    for first in samples() {
-        for second in samples() {
+    for first in samples(CARD) {
+        for second in samples(CARD) {
             for length in [1, 4, 15, 16, second.len()] {
                 let bytes = [&first[..], &second[..length]].concat();
                 trial.on(packet(0, &bytes));
@@ -107,7 +94,7 @@ fn two_at_once(runner: &mut Runner<'_>) -> Run {
 
 /// Addresses in both forms with each bit, and a long form of upper address 0.
 fn addresses(runner: &mut Runner<'_>) -> Run {
-    let [short, long, ..] = samples();
+    let [short, long, ..] = samples(CARD);
     let mut trial = begun();
     for bit in 0..32 {
         trial.on(with_bits(&short, SHORT_ADDRESS_AT, 1 << bit));
@@ -146,7 +133,7 @@ fn codes(runner: &mut Runner<'_>) -> Run {
 /// messages.
 fn senders(runner: &mut Runner<'_>) -> Run {
     let mut trial = begun();
-    for sample in samples() {
+    for sample in samples(CARD) {
         for device in 0..32 {
             for bus in [0, 1, 0x80, 0xFF] {
                 for function in 0..8 {
@@ -184,7 +171,7 @@ fn rooms(runner: &mut Runner<'_>) -> Run {
 }
 
 fn room_calls() -> Vec<Call> {
-    let [short, long, ..] = samples();
+    let [short, long, ..] = samples(CARD);
     vec![
         packet(1, &short),
         packet(1, &long),
