@@ -45,7 +45,7 @@ static void show(Card *card)
     show_waiting(card, "MSI", card->bytes + 5, 32);
     show_waiting(card, "MSI-X", card->pending, card->vectors);
     say(card, "%" PRIu64 " calls, %" PRIu64 " of them refused; %u events a second; ", card->calls, card->refused, card->rate);
-    say(card, card->record.log == NULL ? "not recorded\n" : "recorded as %s, part %u\n", card->name, card->record.part);
+    say(card, card->recording.log == NULL ? "not recorded\n" : "recorded as %s, part %u\n", card->name, card->recording.part);
 }
 
 /* The end of an answer about a file: the file's error, the card's refusal, or what was done. */

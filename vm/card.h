@@ -11,7 +11,7 @@
 #include "hw/pci/pci.h"
 #include "qemu/timer.h"
 
-#include "record.h"
+#include "recording.h"
 
 #define BARS MUSGARENTO_SIZES
 #define NOT_GIVEN UINT32_MAX
@@ -48,7 +48,7 @@ struct Card {
     uint8_t power, express; /* where these two capabilities are, or 0 */
     bool carrying, watched;
     uint64_t calls, refused;
-    Record record;
+    Recording recording;
     QEMUTimer timer;
     uint32_t random;
     GString *line, *said;

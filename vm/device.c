@@ -50,8 +50,8 @@ static void note(Card *card, const Call *call)
     Packet p;
     card->calls++;
     card->refused += call->refusal != MUSGARENTO_ACCEPTED;
-    if (card->record.log != NULL && !record_call(&card->record, call, card->out)) {
-        error_report("musgarento: the record %s cannot be written, and ends here: %s", card->name, strerror(errno));
+    if (card->recording.log != NULL && !record_call(&card->recording, call, card->out)) {
+        error_report("musgarento: the recording %s cannot be written, and ends here: %s", card->name, strerror(errno));
     }
     if (card->watched) {
         say(card, "%s\n", call_words(words, call));
@@ -278,11 +278,11 @@ uint8_t save_image(Card *card)
     return refusal;
 }
 
-static bool begin_record(Card *card)
+static bool begin_recording(Card *card)
 {
     return card->name == NULL
         || (save_image(card) == MUSGARENTO_ACCEPTED
-            && record_begin(&card->record, card->name, card->image, card->image_len));
+            && record_begin(&card->recording, card->name, card->image, card->image_len));
 }
 
 uint8_t take_image(Card *card, const void *image, size_t count)
@@ -290,8 +290,8 @@ uint8_t take_image(Card *card, const void *image, size_t count)
     uint8_t refusal = musgarento_restore(LENT(card), image, count);
     if (refusal == MUSGARENTO_ACCEPTED) {
         follow(card);
-        if (!begin_record(card)) {
-            error_report("musgarento: the record %s cannot be written, and ends here: %s", card->name, strerror(errno));
+        if (!begin_recording(card)) {
+            error_report("musgarento: the recording %s cannot be written, and ends here: %s", card->name, strerror(errno));
         }
     }
     return refusal;
@@ -464,8 +464,8 @@ static void realize(PCIDevice *pci, Error **errp)
     if (!read_card(card, errp) || !set_masks(card, errp) || !add_bars(card, errp)) {
         return;
     }
-    if (!begin_record(card)) {
-        error_setg_errno(errp, errno, "the record %s cannot be written", card->name);
+    if (!begin_recording(card)) {
+        error_setg_errno(errp, errno, "the recording %s cannot be written", card->name);
         return;
     }
     set_rate(card, card->rate);

@@ -94,13 +94,13 @@ class Machine:
 
     def clear(self):
         """Removes the files of an earlier machine of this name."""
-        for old in glob.glob(self.path("*")) + glob.glob(self.record(0)[:-1] + "*"):
+        for old in glob.glob(self.path("*")) + glob.glob(self.recording(0)[:-1] + "*"):
             os.remove(old)
 
     def path(self, ending):
         return os.path.join(ROOM, "%s.%s" % (self.name, ending))
 
-    def record(self, number):
+    def recording(self, number):
         return os.path.join(ROOM, "%s-card%d" % (self.name, number))
 
     def memory(self):
@@ -127,7 +127,7 @@ class Machine:
             file = os.path.join(ROOM, "card%d.config" % number)
             with open(file, "wb") as out:
                 out.write(config)
-            options = ["musgarento", "addr=%d" % (3 + number), "card=" + file, "selftest=0", "record=" + self.record(number)]
+            options = ["musgarento", "addr=%d" % (3 + number), "card=" + file, "selftest=0", "record=" + self.recording(number)]
             options += ["bar%d=%d" % size for size in cards.BAR_SIZES.items()]
             if number == 0:
                 options += ["control=bench"]

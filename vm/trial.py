@@ -349,7 +349,7 @@ def migrate(machine, name, device):
             break
         time.sleep(0.1)
     expect("migration", status, "completed")
-    machine.tell("save " + machine.record(0) + ".end")
+    machine.tell("save " + machine.recording(0) + ".end")
     machine.end()
     other = Machine(name, device, state)
     for _ in range(200):
@@ -410,8 +410,8 @@ def saved_tests(trial, machines, device):
 # ---- logs
 
 def plays_again(machine, number):
-    """Each part of a card's record gives its packets again; the last one the card as it was saved at the end."""
-    name = machine.record(number)
+    """Each part of a card's recording gives its packets again; the last one the card as it was saved at the end."""
+    name = machine.recording(number)
     parts = sorted(glob.glob(name + ".clg") + glob.glob(name + "-*.clg"), key=os.path.getmtime)
     records = sent = 0
     for part in parts:
@@ -497,7 +497,7 @@ def start_tests(trial, device):
             ("a function that is not number 0", card + sizes + ",addr=3.1,multifunction=on", "start refused with 16: "),
             ("a self-test in a small BAR", card + ",bar0=1024,bar2=4096,selftest=0", "selftest=0: no BAR of 2048 bytes"),
             ("a memory file that is not there", card + sizes + ",memory0=%s/none" % ROOM, "No such file"),
-            ("a record that cannot be written", card + sizes + ",record=%s/none/x" % ROOM, "cannot be written")):
+            ("a recording that cannot be written", card + sizes + ",record=%s/none/x" % ROOM, "cannot be written")):
         trial.check(name, does_not_start, device, options, words)
     trial.check("another QEMU than the device was built for", does_not_start, os.path.join(ROOM, "elsewhere.so"), card,
                 "built for QEMU 0.0.0")
@@ -510,7 +510,7 @@ def running_tests(trial, machines, device):
     bench_tests(trial, machines[0])
     load_tests(trial, machines[0])
     saved_tests(trial, machines, device)
-    machines[-1].tell("save " + machines[-1].record(0) + ".end")
+    machines[-1].tell("save " + machines[-1].recording(0) + ".end")
 
 
 def main():

@@ -1,28 +1,28 @@
 /*
  * SPDX-License-Identifier: GPL-2.0-or-later
  *
- * The record of a trial in three files: NAME.card, the image of the card where it begins; NAME.clg, the log of the
+ * The recording of a trial in three files: NAME.card, the image of the card where it begins; NAME.clg, the log of the
  * calls since then; NAME.tlp, the packets that they sent, one after another. A log has no record of a restore: behind
- * one the record goes on as NAME-2, NAME-3 and so on. No file is written over. Nothing here knows QEMU.
+ * one the recording goes on as NAME-2, NAME-3 and so on. No file is written over. Nothing here knows QEMU.
  */
-#ifndef RECORD_H
-#define RECORD_H
+#ifndef RECORDING_H
+#define RECORDING_H
 
 #include "words.h"
 
 #include <stdbool.h>
 
-typedef struct Record {
+typedef struct Recording {
     unsigned part;
     FILE *log, *packets;
-} Record;
+} Recording;
 
 static inline bool record_put(FILE *file, const void *bytes, size_t count)
 {
     return fwrite(bytes, 1, count, file) == count && fflush(file) == 0;
 }
 
-static inline FILE *record_open(const Record *r, const char *name, const char *ending)
+static inline FILE *record_open(const Recording *r, const char *name, const char *ending)
 {
     char path[4096];
     int n = r->part > 1 ? snprintf(path, sizeof path, "%s-%u.%s", name, r->part, ending)
@@ -30,7 +30,7 @@ static inline FILE *record_open(const Record *r, const char *name, const char *e
     return n < (int)sizeof path ? fopen(path, "wbx") : NULL;
 }
 
-static inline void record_end(Record *r)
+static inline void record_end(Recording *r)
 {
     if (r->log != NULL) {
         fclose(r->log);
@@ -42,7 +42,7 @@ static inline void record_end(Record *r)
 }
 
 /* Begins the next part with the card of this image; false if a file cannot be written. */
-static inline bool record_begin(Record *r, const char *name, const uint8_t *image, size_t count)
+static inline bool record_begin(Recording *r, const char *name, const uint8_t *image, size_t count)
 {
     uint8_t header[MUSGARENTO_LOG_HEADER_BYTES];
     size_t begun;
@@ -62,8 +62,8 @@ static inline bool record_begin(Record *r, const char *name, const uint8_t *imag
     return good;
 }
 
-/* Adds a call and its packets; false if they cannot be written, and then the record ends. */
-static inline bool record_call(Record *r, const Call *c, const uint8_t *out)
+/* Adds a call and its packets; false if they cannot be written, and then the recording ends. */
+static inline bool record_call(Recording *r, const Call *c, const uint8_t *out)
 {
     uint8_t bytes[MUSGARENTO_RECORD_BYTES];
     size_t count;
