@@ -45,18 +45,21 @@ static void show(Card *card)
     show_waiting(card, "MSI", card->bytes + 5, 32);
     show_waiting(card, "MSI-X", card->pending, card->vectors);
     say(card, "%" PRIu64 " calls, %" PRIu64 " of them refused; %u events a second; ", card->calls, card->refused, card->rate);
-    say(card, card->recording.log == NULL ? "not recorded\n" : "recorded as %s, part %u\n", card->name, card->recording.part);
+    if (card->recording.log == NULL) {
+        say(card, "not recorded\n");
+    } else {
+        say(card, "recorded as %s, part %u\n", card->name, card->recording.part);
+    }
 }
 
 /* The end of an answer about a file: the file's error, the card's refusal, or what was done. */
 static void say_of_file(Card *card, GError *error, uint8_t refusal, const char *done)
 {
+    char words[WORDS_BYTES];
     if (error != NULL) {
         say(card, "%s\n", error->message);
-    } else if (refusal != MUSGARENTO_ACCEPTED) {
-        say(card, "refused with %u: %s\n", refusal, sentence(refusal));
     } else {
-        say(card, "%s\n", done);
+        say(card, "%s\n", refusal == MUSGARENTO_ACCEPTED ? done : refused_words(words, refusal));
     }
 }
 

@@ -285,10 +285,29 @@ static bool begin_recording(Card *card)
             && record_begin(&card->recording, card->name, card->image, card->image_len));
 }
 
+/* What refuses an image. One of another card would change what the machine knows of this one; after a reset, which gives
+   the state of a start, two cards differ exactly if they were started differently. */
+static uint8_t image_refusal(Card *card, const void *image, size_t count)
+{
+    g_autofree uint8_t *table = g_memdup2(card->table, card->table_len + 1);
+    g_autofree uint8_t *pending = g_memdup2(card->pending, card->pending_len + 1);
+    uint8_t started[MUSGARENTO_CARD_BYTES], other[MUSGARENTO_CARD_BYTES];
+    size_t sent;
+    memcpy(started, card->bytes, sizeof started);
+    musgarento_reset(started, sizeof started, table, card->table_len, pending, card->pending_len, OUT(card), &sent);
+    uint8_t refusal = musgarento_restore(other, sizeof other, table, card->table_len, pending, card->pending_len, image, count);
+    if (refusal != MUSGARENTO_ACCEPTED) {
+        return refusal;
+    }
+    musgarento_reset(other, sizeof other, table, card->table_len, pending, card->pending_len, OUT(card), &sent);
+    return memcmp(started, other, sizeof started) == 0 ? MUSGARENTO_ACCEPTED : ANOTHER_CARD;
+}
+
 uint8_t take_image(Card *card, const void *image, size_t count)
 {
-    uint8_t refusal = musgarento_restore(LENT(card), image, count);
+    uint8_t refusal = image_refusal(card, image, count);
     if (refusal == MUSGARENTO_ACCEPTED) {
+        musgarento_restore(LENT(card), image, count);
         follow(card);
         if (!begin_recording(card)) {
             error_report("musgarento: the recording %s cannot be written, and ends here: %s", card->name, strerror(errno));
@@ -305,9 +324,10 @@ static int pre_save(void *opaque)
 static int post_load(void *opaque, int version)
 {
     Card *card = opaque;
+    char words[WORDS_BYTES];
     uint8_t refusal = take_image(card, card->image, MIN(card->image_len, sizeof card->image));
     if (refusal != MUSGARENTO_ACCEPTED) {
-        error_report("musgarento: the saved card is refused with %u: %s", refusal, sentence(refusal));
+        error_report("musgarento: the saved card is %s", refused_words(words, refusal));
         return -EINVAL;
     }
     set_rate(card, card->rate);
@@ -356,14 +376,15 @@ static uint8_t find_capability(const uint8_t *config, uint8_t id)
    copy of the card), since an interrupt capability lies over it. */
 static uint8_t kept_capability(Card *card, uint8_t id, unsigned word)
 {
+    g_autofree uint8_t *pending = g_memdup2(card->pending, card->pending_len + 1);
     uint8_t bytes[MUSGARENTO_CARD_BYTES];
     uint8_t place = find_capability(card->pci.config, id);
     size_t count;
     memcpy(bytes, card->bytes, sizeof bytes);
-    uint8_t refusal = musgarento_config_write(bytes, sizeof bytes, BUFFERS(card), place + word, 4, UINT32_MAX, OUT(card),
-                                              &count);
-    bool free = refusal == MUSGARENTO_ACCEPTED && memcmp(bytes, card->bytes, sizeof bytes) == 0;
-    return place != 0 && free ? place : 0;
+    uint8_t refusal = musgarento_config_write(bytes, sizeof bytes, card->table, card->table_len, pending, card->pending_len,
+                                              place + word, 4, UINT32_MAX, OUT(card), &count);
+    bool unwritten = refusal == MUSGARENTO_ACCEPTED && memcmp(bytes, card->bytes, sizeof bytes) == 0;
+    return place != 0 && unwritten ? place : 0;
 }
 
 /* QEMU's copy of the configuration begins as the card shows it. Of its bits a guest can write those of the BARs, bits 0 to
@@ -424,7 +445,7 @@ static bool add_bar(Card *card, Bar *bar, Error **errp)
         return false;
     }
     if (upper_half || (wide && bar->number == BARS - 1)) {
-        error_setg(errp, "BAR %u: it %s", bar->number, wide ? "has no BAR for its upper half" : "is the upper half of another");
+        error_setg(errp, "BAR %u %s", bar->number, upper_half ? "is the upper half of another" : "has no BAR for its upper half");
         return false;
     }
     if (!fill_memory(bar, errp)) {

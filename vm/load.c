@@ -9,8 +9,9 @@
 /* Says why not, where it was refused. */
 bool good(Error **errp, const char *what, uint8_t refusal)
 {
+    char words[WORDS_BYTES];
     if (refusal != MUSGARENTO_ACCEPTED) {
-        error_setg(errp, "%s refused with %u: %s", what, refusal, sentence(refusal));
+        error_setg(errp, "%s %s", what, refused_words(words, refusal));
     }
     return refusal == MUSGARENTO_ACCEPTED;
 }

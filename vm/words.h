@@ -39,6 +39,19 @@ static inline const char *sentence(unsigned refusal)
     return refusal < known && sentences[refusal] != NULL ? sentences[refusal] : "no refusal of the card";
 }
 
+/* Of a restore in a machine, beside the card's own refusals: a sound image, but not of this card. */
+#define ANOTHER_CARD 255
+
+static inline const char *refused_words(char words[WORDS_BYTES], unsigned refusal)
+{
+    if (refusal == ANOTHER_CARD) {
+        snprintf(words, WORDS_BYTES, "refused: it is another card");
+    } else {
+        snprintf(words, WORDS_BYTES, "refused with %u: %s", refusal, sentence(refusal));
+    }
+    return words;
+}
+
 /* The packet at `at`, which goes behind it; false behind the last of `count` bytes. */
 static inline _Bool next_packet(const uint8_t *out, size_t count, size_t *at, Packet *p)
 {
@@ -82,12 +95,10 @@ static inline int name_words(char words[WORDS_BYTES], const Call *c)
 static inline const char *call_words(char words[WORDS_BYTES], const Call *c)
 {
     static const char *const answers[] = { "accepted", "sent", "held", "merged", "lost" };
+    char refused[WORDS_BYTES];
     int n = name_words(words, c);
-    if (c->refusal != MUSGARENTO_ACCEPTED) {
-        snprintf(words + n, WORDS_BYTES - n, ": refused with %u: %s", c->refusal, sentence(c->refusal));
-    } else {
-        snprintf(words + n, WORDS_BYTES - n, ": %s", answers[c->answer]);
-    }
+    snprintf(words + n, WORDS_BYTES - n, ": %s",
+             c->refusal != MUSGARENTO_ACCEPTED ? refused_words(refused, c->refusal) : answers[c->answer]);
     return words;
 }
 

@@ -1,0 +1,1 @@
+"""The checks of the trial, a file for each subject."""

@@ -1,0 +1,100 @@
+"""The machine's own snapshots and migration."""
+import os
+import subprocess
+import time
+
+from checks.bench import damage
+from checks.common import comes_once, expect, has, not_missed, quiet_card, waiting
+from checks.load import begin_storm
+from machine import ROOM, Machine
+
+
+def snapshot(machine):
+    quiet_card(machine, [2, 40])
+    machine.human("savevm halfway")
+    machine.act("open")
+    expect("waiting", waiting(machine), "none")
+    machine.human("loadvm halfway")
+    expect("waiting", waiting(machine), "2 40")
+    comes_once(machine, [2, 40])
+
+
+def snapshot_under_load(machine):
+    begin_storm(machine, 20)
+    time.sleep(0.3)
+    machine.human("savevm load")
+    time.sleep(0.3)
+    machine.ask("stop")
+    machine.guest.forget()
+    machine.human("loadvm load")
+    machine.ask("cont")
+    return not_missed(machine.finished()[0])
+
+
+def migrate(machine, name, device):
+    """The machine in another process."""
+    state = os.path.join(ROOM, "machine.state")
+    machine.ask("stop")
+    machine.ask("migrate", uri="exec:cat > " + state)
+    for _ in range(600):
+        status = machine.ask("query-migrate").get("status")
+        if status in ("completed", "failed"):
+            break
+        time.sleep(0.1)
+    expect("migration", status, "completed")
+    machine.tell("save " + machine.recording(0) + ".end")
+    machine.end()
+    other = Machine(name, device, state)
+    for _ in range(200):
+        if other.ask("query-status")["status"] != "inmigrate":
+            break
+        time.sleep(0.1)
+    other.ask("cont")
+    return other
+
+
+def damaged_states(device):
+    """The saved machine with a damaged card: QEMU does not load it, and says the number."""
+    state = os.path.join(ROOM, "machine.state")
+    with open(state, "rb") as file:
+        place = file.read().rindex(b"IRQ\x01\x00")
+    for at, value, number in ((0, 0xFF, 20), (3, 0xFF, 21), (5, 0xFF, 22)):
+        with open(state, "r+b") as file:
+            file.seek(place + at)
+            kept = file.read(1)
+        damage(state, place + at, value)
+        words = Unbooted().words(device) + ["-incoming", "exec:cat " + state]
+        run = subprocess.run(words, stdin=subprocess.DEVNULL, stdout=subprocess.PIPE, stderr=subprocess.STDOUT, timeout=60)
+        damage(state, place + at, kept[0])
+        has("QEMU's words", run.stdout.decode(), "the saved card is refused with %d: " % number)
+        expect("exit status", run.returncode, 1)
+
+
+class Unbooted(Machine):
+    """A machine that is asked for its words alone."""
+
+    def __init__(self):
+        self.name = "damaged"
+        self.clear()
+
+
+def moved(trial, machine, name, device):
+    """The machine in another process, or where it was if that fails."""
+    kept = [machine]
+    trial.check("the machine goes to another process", lambda: kept.append(migrate(machine, name, device)))
+    return kept[-1]
+
+
+def saved_tests(trial, machines, device):
+    trial.heading("the machine's own snapshots and migration")
+    trial.check("a snapshot keeps what waits", snapshot, machines[0])
+    trial.check("a snapshot under load", snapshot_under_load, machines[0])
+    trial.check("three vectors wait", quiet_card, machines[0], [1, 33, 62])
+    machines.append(moved(trial, machines[0], "second", device))
+    trial.check("what waited still waits there", lambda: expect("waiting", waiting(machines[1]), "1 33 62"))
+    trial.check("and comes once", comes_once, machines[1], [1, 33, 62])
+    trial.check("damaged states are refused with 20, 21 and 22", damaged_states, device)
+    begin_storm(machines[1], 20)
+    time.sleep(0.3)
+    machines.append(moved(trial, machines[1], "third", device))
+    trial.check("a storm begun in one process ends well in another", lambda: not_missed(machines[2].finished()[0]))
