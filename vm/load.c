@@ -52,8 +52,9 @@ static bool load(Card *card, const uint8_t *file, size_t count, Error **errp)
         return good(errp, "configuration", musgarento_config_lengths(file, count, n, t, p)) && lend(card)
             && good(errp, "start", start(card, file));
     }
-    return good(errp, "image", musgarento_image_lengths(file, count, n, t, p)) && lend(card)
-        && good(errp, "image", musgarento_restore(LENT(card), file, count));
+    const char *what = "not 256 configuration bytes, and as an image";
+    return good(errp, what, musgarento_image_lengths(file, count, n, t, p)) && lend(card)
+        && good(errp, what, musgarento_restore(LENT(card), file, count));
 }
 
 bool read_card(Card *card, Error **errp)

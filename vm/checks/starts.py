@@ -1,10 +1,15 @@
 """Cards of other kinds, and machines that do not start."""
+import glob
 import os
 import subprocess
+import time
 
 import cards
 from checks.common import expect, has
-from machine import HERE, ROOM
+from machine import HERE, ROOM, Failure
+
+EVENT = 1
+RECORD_BYTES = {EVENT: 3, 2: 2, 3: 8, 4: 15, 5: 1}
 
 
 def does_not_start(device, options, words):
@@ -21,6 +26,32 @@ def starts(device, options):
                          + ["-monitor", "stdio", "-device", "musgarento," + options], input=b"system_reset\nquit\n",
                          stdout=subprocess.PIPE, stderr=subprocess.STDOUT, timeout=60)
     expect("exit status", run.returncode, 0)
+
+
+def runs_at_a_rate(device, options):
+    """With rate= events come by themselves: they are in the log."""
+    name = os.path.join(ROOM, "rate")
+    for old in glob.glob(name + ".*"):
+        os.remove(old)
+    words = ["qemu-system-x86_64", "-nodefaults", "-display", "none", "-machine", "q35", "-plugin", device,
+             "-monitor", "stdio", "-device", "musgarento,%s,rate=1000,record=%s" % (options, name)]
+    machine = subprocess.Popen(words, stdin=subprocess.PIPE, stdout=subprocess.DEVNULL, stderr=subprocess.DEVNULL)
+    time.sleep(1)
+    machine.communicate(b"quit\n", timeout=60)
+    expect("exit status", machine.returncode, 0)
+    with open(name + ".clg", "rb") as file:
+        events = kinds(file.read()).count(EVENT)
+    if events < 100:
+        raise Failure("%d events in a second" % events)
+
+
+def kinds(log):
+    """The kinds of the records of a log."""
+    at, found = 5, []
+    while at < len(log):
+        found.append(log[at])
+        at += RECORD_BYTES[log[at]]
+    return found
 
 
 def changed(name, at, value):
@@ -53,11 +84,12 @@ def start_tests(trial, device):
     sizes = ",bar0=4096,bar2=4096"
     trial.check("a card without a pin", starts, device, changed("pinless", 0x3D, 0) + sizes)
     trial.check("sizes and events that are not given", starts, device, plain_card())
+    trial.check("events that come at a rate from the beginning", runs_at_a_rate, device, card + sizes)
     trial.check("a saved image as card", starts, device, "card=" + os.path.join(HERE, "../trials/sonic.card"))
     for name, options, words in (
             ("no card", "bar0=4096", "which card?"),
             ("no such file", "card=%s/none" % ROOM, "No such file"),
-            ("255 bytes", "card=" + short, "image refused with 20: "),
+            ("255 bytes", "card=" + short, "as an image refused with 20: "),
             ("bridge header", changed("header", 0x0E, 1) + sizes, "start refused with 10: "),
             ("broken list", changed("list", cards.MSI + 1, 0x3C) + sizes, "start refused with 11: "),
             ("MSI twice", changed("twice", cards.MSIX, 0x05) + sizes, "start refused with 12: "),
