@@ -86,16 +86,20 @@ class Machine:
             words += ["-S", "-incoming", "exec:cat " + state]
         with open(self.errors, "wb") as errors:
             self.process = subprocess.Popen(words, stdin=subprocess.DEVNULL, stdout=errors, stderr=errors)
-        self.monitor = Line(self.path("monitor"), self.process, patience)
+        self.monitor = Line(self.socket("monitor"), self.process, patience)
         self.monitor.until(rb'"QMP".*\n')
         self.ask("qmp_capabilities")
-        self.guest = Line(self.path("serial"), self.process, patience)
-        self.bench = Line(self.path("bench"), self.process, patience)
+        self.guest = Line(self.socket("serial"), self.process, patience)
+        self.bench = Line(self.socket("bench"), self.process, patience)
 
     def clear(self):
         """Removes the files of an earlier machine of this name."""
         for old in glob.glob(self.path("*")) + glob.glob(self.recording(0)[:-1] + "*"):
             os.remove(old)
+
+    def socket(self, ending):
+        """Relative to the folder of the process, since the name of a socket has 107 bytes at most."""
+        return os.path.relpath(self.path(ending))
 
     def path(self, ending):
         return os.path.join(ROOM, "%s.%s" % (self.name, ending))
@@ -121,7 +125,7 @@ class Machine:
                  "-drive", "if=none,id=snapshots,file=%s,format=qcow2" % os.path.join(ROOM, "snapshots.qcow2"),
                  "-device", "virtio-blk-pci,drive=snapshots"]
         for chardev in ("serial", "bench", "monitor"):
-            words += ["-chardev", "socket,id=%s,path=%s,server=on,wait=off" % (chardev, self.path(chardev))]
+            words += ["-chardev", "socket,id=%s,path=%s,server=on,wait=off" % (chardev, self.socket(chardev))]
         words += ["-serial", "chardev:serial", "-mon", "monitor,mode=control"]
         for number, (name, config) in enumerate(cards.CARDS):
             file = os.path.join(ROOM, "card%d.config" % number)

@@ -31,6 +31,7 @@ def running_tests(trial, machines, device):
 def main():
     trial = Trial()
     device = os.path.join(ROOM, DEVICE)
+    os.chdir(ROOM)
     subprocess.run(["qemu-img", "create", "-q", "-f", "qcow2", os.path.join(ROOM, "snapshots.qcow2"), "64M"], check=True)
     trial.heading("a machine with four cards, " + DEVICE)
     machines = [Machine("first", device)]

@@ -5,6 +5,7 @@ import time
 
 from checks.bench import damage
 from checks.common import comes_once, expect, has, not_missed, quiet_card, waiting
+from checks.driver import interrupts, pin_test
 from checks.load import begin_storm
 from machine import ROOM, Machine
 
@@ -17,6 +18,25 @@ def snapshot(machine):
     machine.human("loadvm halfway")
     expect("waiting", waiting(machine), "2 40")
     comes_once(machine, [2, 40])
+
+
+def wire_over_snapshot(machine):
+    """A wire that became active while the machine stood still is active again, and the driver takes one interrupt."""
+    machine.act("pin")
+    machine.run("rmmod storm; insmod /pci_endpoint_test.ko irq_type=0")
+    before = interrupts(machine, "pci-endpoint-test.0")
+    machine.ask("stop")
+    has("line", machine.tell("line 1"), "Assert_INTA")
+    machine.human("savevm wire")
+    has("line", machine.tell("line 0"), "Deassert_INTA")
+    machine.human("loadvm wire")
+    has("wire", machine.tell("show"), "line high, wire active")
+    machine.ask("cont")
+    expect("interrupts", interrupts(machine, "pci-endpoint-test.0") - before, 1)
+    has("wire", machine.tell("show"), "line low, wire inactive")
+    said = pin_test(machine, 0)
+    machine.run("rmmod pci_endpoint_test; insmod /storm.ko")
+    return "then " + said
 
 
 def snapshot_under_load(machine):
@@ -88,13 +108,14 @@ def moved(trial, machine, name, device):
 def saved_tests(trial, machines, device):
     trial.heading("the machine's own snapshots and migration")
     trial.check("a snapshot keeps what waits", snapshot, machines[0])
+    trial.check("a snapshot keeps an active wire", wire_over_snapshot, machines[0])
     trial.check("a snapshot under load", snapshot_under_load, machines[0])
     trial.check("three vectors wait", quiet_card, machines[0], [1, 33, 62])
     machines.append(moved(trial, machines[0], "second", device))
     trial.check("what waited still waits there", lambda: expect("waiting", waiting(machines[1]), "1 33 62"))
     trial.check("and comes once", comes_once, machines[1], [1, 33, 62])
     trial.check("damaged states are refused with 20, 21 and 22", damaged_states, device)
-    begin_storm(machines[1], 20)
-    time.sleep(0.3)
-    machines.append(moved(trial, machines[1], "third", device))
-    trial.check("a storm begun in one process ends well in another", lambda: not_missed(machines[2].finished()[0]))
+    if trial.check("a storm is begun", begin_storm, machines[1], 20):
+        time.sleep(0.3)
+        machines.append(moved(trial, machines[1], "third", device))
+        trial.check("and ends well in another process", lambda: not_missed(machines[-1].finished()[0]))
