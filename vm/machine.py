@@ -41,9 +41,10 @@ class Line:
     def write(self, text):
         self.socket.sendall(text.encode())
 
-    def until(self, pattern):
+    def until(self, pattern, patience=None):
         """What comes before the pattern, and its match."""
-        end = time.monotonic() + self.patience
+        patience = patience or self.patience
+        end = time.monotonic() + patience
         while True:
             found = re.search(pattern, self.kept)
             if found:
@@ -53,7 +54,7 @@ class Line:
             try:
                 got = self.socket.recv(65536)
             except socket.timeout:
-                raise Silence("no answer in %d s; last: %r" % (self.patience, self.kept[-200:]))
+                raise Silence("no answer in %d s; last: %r" % (patience, self.kept[-200:]))
             if not got:
                 raise Silence("QEMU closed the line; last: %r" % self.kept[-200:])
             self.kept += got
@@ -163,19 +164,19 @@ class Machine:
         """A line for the guest's shell, whose end is not waited for."""
         self.guest.write(line + "\n")
 
-    def finished(self):
+    def finished(self, patience=None):
         """What the line printed, and its exit status."""
-        said, found = self.guest.until(rb"=(\d+)\r?\n")
+        said, found = self.guest.until(rb"=(\d+)\r?\n", patience)
         return said.strip(), int(found.group(1))
 
-    def run(self, line):
+    def run(self, line, patience=None):
         self.begin(line)
-        return self.finished()
+        return self.finished(patience)
 
-    def act(self, line):
+    def act(self, line, patience=None):
         """A command of the storm's driver; its result."""
         act = "/sys/module/storm/parameters/act"
-        said, status = self.run("echo %s > %s && cat %s" % (line, act, act))
+        said, status = self.run("echo %s > %s && cat %s" % (line, act, act), patience)
         if status:
             raise Failure("storm: %s: %s" % (line, said))
         return said

@@ -7,6 +7,7 @@ from checks.common import has, not_missed
 from machine import ROOM
 
 QUICK = "--quick" in sys.argv
+PATIENCE = 600  # seconds for the driver's answer, on a host that does much else
 
 
 def begin_storm(machine, rounds):
@@ -17,7 +18,11 @@ def begin_storm(machine, rounds):
 
 def storm(machine, mode, rounds):
     machine.act(mode)
-    return not_missed(machine.act("storm %d 150 200000" % rounds))
+    return not_missed(machine.act("storm %d 150 200000" % rounds, PATIENCE))
+
+
+def end_storm(machine):
+    return not_missed(machine.finished(PATIENCE)[0])
 
 
 def storm_with_saves(machine, rounds):
@@ -31,12 +36,12 @@ def storm_with_saves(machine, rounds):
         has("reset", machine.tell("reset"), "accepted")
         has("restore", machine.tell("restore " + name), "accepted")
         machine.ask("cont")
-    return not_missed(machine.finished()[0])
+    return end_storm(machine)
 
 
 def upheaval(machine, rounds):
     machine.act("msix 64")
-    return not_missed(machine.act("upheaval %d 60 200000" % rounds))
+    return not_missed(machine.act("upheaval %d 200 50000" % rounds, PATIENCE))
 
 
 def load_tests(trial, machine):

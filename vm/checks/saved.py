@@ -4,9 +4,9 @@ import subprocess
 import time
 
 from checks.bench import damage
-from checks.common import comes_once, expect, has, not_missed, quiet_card, waiting
+from checks.common import comes_once, expect, has, quiet_card, waiting
 from checks.driver import interrupts, pin_test
-from checks.load import begin_storm
+from checks.load import begin_storm, end_storm
 from machine import ROOM, Machine
 
 
@@ -48,7 +48,7 @@ def snapshot_under_load(machine):
     machine.guest.forget()
     machine.human("loadvm load")
     machine.ask("cont")
-    return not_missed(machine.finished()[0])
+    return end_storm(machine)
 
 
 def migrate(machine, name, device):
@@ -118,4 +118,4 @@ def saved_tests(trial, machines, device):
     if trial.check("a storm is begun", begin_storm, machines[1], 20):
         time.sleep(0.3)
         machines.append(moved(trial, machines[1], "third", device))
-        trial.check("and ends well in another process", lambda: not_missed(machines[-1].finished()[0]))
+        trial.check("and ends well in another process", lambda: end_storm(machines[-1]))
