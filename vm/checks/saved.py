@@ -1,5 +1,6 @@
 """The machine's own snapshots and migration."""
 import os
+import re
 import subprocess
 import time
 
@@ -7,7 +8,9 @@ from checks.bench import damage
 from checks.common import comes_once, expect, has, quiet_card, waiting
 from checks.driver import interrupts, pin_test
 from checks.load import begin_storm, end_storm
-from machine import ROOM, Machine
+from machine import ROOM, Failure, Machine
+
+SNAPSHOTS = os.path.join(ROOM, "snapshots.qcow2")
 
 
 def snapshot(machine):
@@ -18,6 +21,38 @@ def snapshot(machine):
     machine.human("loadvm halfway")
     expect("waiting", waiting(machine), "2 40")
     comes_once(machine, [2, 40])
+
+
+def set_flags(places, value):
+    """The flags byte of the images at these places of the snapshots' file."""
+    for place in places:
+        damage(SNAPSHOTS, place + 5, value)
+
+
+def damaged_snapshot(machine):
+    """Loaded into a running machine: refused, the card as it was, the machine stands still; a good one loads again."""
+    quiet_card(machine, [7])
+    machine.human("savevm damaged")
+    with open(SNAPSHOTS, "rb") as file:
+        contents = file.read()
+    places = [found.start() for found in re.finditer(rb"IRQ\x01\x00", contents)]
+    kept = [contents[place + 5] for place in places]
+    machine.act("open")
+    before = machine.tell("show").split("\n")[:3]
+    set_flags(places, 0xFF)
+    try:
+        machine.human("loadvm damaged")
+        raise Failure("a damaged snapshot was loaded")
+    except Failure as why:
+        has("QEMU's words", str(why), "the saved card is refused with 22: ")
+    expect("card", machine.tell("show").split("\n")[:3], before)
+    expect("running", machine.ask("query-status")["running"], False)
+    for place, value in zip(places, kept):
+        set_flags([place], value)
+    machine.human("loadvm damaged")
+    machine.ask("cont")
+    expect("waiting", waiting(machine), "7")
+    comes_once(machine, [7])
 
 
 def wire_over_snapshot(machine):
@@ -108,6 +143,7 @@ def moved(trial, machine, name, device):
 def saved_tests(trial, machines, device):
     trial.heading("the machine's own snapshots and migration")
     trial.check("a snapshot keeps what waits", snapshot, machines[0])
+    trial.check("a damaged snapshot is refused by a running machine", damaged_snapshot, machines[0])
     trial.check("a snapshot keeps an active wire", wire_over_snapshot, machines[0])
     trial.check("a snapshot under load", snapshot_under_load, machines[0])
     trial.check("three vectors wait", quiet_card, machines[0], [1, 33, 62])
