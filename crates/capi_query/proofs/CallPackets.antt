@@ -5,23 +5,21 @@ use mathlib.Core.Bool.{Bool, true, false, not, _&&_, true≢false, false≢true}
 use mathlib.Core.List.{List, [], append-nil}
 use mathlib.Core.Option.{Option, none, some}
 use Prim.Native.Nat.{ℕ, _+_, _-_, _*_, _/_, _%_, _^_, _≤_, _<_}
-use native.Mathlib.Nat.{div-mul-le-self}
 use native.Mathlib.Omega.{arith}
 use lib.Bits.{bitAnd, and-comm, and-mask}
 use lib.Dec.{eqb, ltb}
-use lib.Pow.{pow-mono}
 use lib.ListN.{length, take}
 use lib.Seq.{take-at}
 use borrow.Author.Tests.{eqb-true, eqb-false, ltb-true, ltb-false, not-true}
 use Rattle.words.specs.Lists.{firstOf, count}
-use Rattle.words.specs.Bytes.{byte, number, word16, word32, bytesOf, Bytes}
+use Rattle.words.specs.Bytes.{byte, number, word32, bytesOf, Bytes}
 use Rattle.words.proofs.BoolLaws.{by-test, both, cond-elim}
-use Rattle.words.proofs.ByteLaws.{number-lt, word32-lt, word-past, bytesOf-lt}
+use Rattle.words.proofs.ByteLaws.{word32-lt, word-past, bytesOf-lt}
 use Rattle.words.proofs.ListLaws.{all-at, member-keep}
 use Rattle.model.specs.declared.Mode.{Mode}
 use Rattle.model.specs.declared.Mode.the-variants.{Pin, Msi, Msix}
 use Rattle.model.specs.declared.Shape.{Shape}
-use Rattle.model.specs.Shape.{msiPresent, formOf}
+use Rattle.model.specs.Shape.{msiPresent}
 use Rattle.model.specs.Registers.{writable, storedZero, msiZero, entryZero, entryWritable, inTable, configWritten, barWritten}
 use Rattle.model.specs.World.{World, Endpoint, Registers, registers, withRegisters, withLine}
 use Rattle.model.specs.Vectors.{commandBit, modeOf, granted, enabled, isOpen, waits, vectorOf, vectorCount, owed}
@@ -33,12 +31,12 @@ use Rattle.model.specs.Claims.{Typed}
 use Rattle.model.specs.Calls.{Call, Outcome, configRead, configWrite, barRead, barWrite, event, line, reset, save, isSave, changed, sends, step}
 use Rattle.model.proofs.Registers.WriteLaws.{bytes-written}
 use Rattle.model.proofs.Shapes.PlaceLaws.{in-msi, size-large}
-use Rattle.model.proofs.Shapes.FitLaws.{fit}
-use Rattle.model.proofs.Sound.SoundLaws.{Sound, is-sound, accepts}
+use Rattle.model.proofs.Sound.SoundLaws.{Sound, is-sound}
 use Rattle.model.proofs.Sound.StartLaws.{msi-high}
 use Rattle.model.proofs.Vectors.SweepLaws.{open-parts, msi-present}
+use Rattle.model.proofs.MessageData.{data-word}
 use Rattle.model.proofs.Vectors.SettleLaws.{ready, pin-small}
-use Rattle.model.proofs.Vectors.EventLaws.{granted-le, event-bytes}
+use Rattle.model.proofs.Vectors.EventLaws.{event-bytes}
 use Rattle.model.proofs.Calls.CallLaws.{Passed, step-elim}
 use Rattle.model.proofs.Calls.Effects.{ready-config, ready-bar, ready-line, pin-written, event-below}
 use Rattle.capi_query.specs.declared.packets.Fields.{Fields}
@@ -82,22 +80,10 @@ module _ (s : Shape) (u : Endpoint) (k : Sends s u) where
   abbrev r : Registers
   r = registers u
 
-  msi-capable : s .msi .capable ≤ 5
-  msi-capable = rw (k .ready .shaped) at (fit (givenOf u) (accepts (givenOf u) (k .ready .start)) .shape .capable)
-
   msi-at : modeOf s r ≡ Msi → 64 ≤ s .msi .at
   msi-at e =
       let present : msiPresent (shape u) ≡ true = ap msiPresent (k .ready .shaped) ∙ msi-present s r e in
       rw (k .ready .shaped) at (msi-high (u .function .config) present)
-
-  -- the data register has 16 bits, and v is below granted, at most 32
-  msi-value : (v : ℕ) → v < granted s r → msiData s r / granted s r * granted s r + v < 2 ^ 32
-  unfolding msiData word16
-  msi-value v h =
-      let small = number-lt (byte (r .config)) (s .msi .at + formOf s .message) 2 (k .config) in
-      let few = granted-le s r in
-      let most = pow-mono {i = s .msi .capable} {j = 5} msi-capable in
-      omega (arith, div-mul-le-self (number (byte (r .config)) (s .msi .at + formOf s .message) 2) (granted s r))
 
   msi-upper : msiUpper s r < 2 ^ 32
   unfolding msiUpper
@@ -110,7 +96,7 @@ module _ (s : Shape) (u : Endpoint) (k : Sends s u) where
   open-message Msi v h =
       let o = open-parts Msi s r v h in
       message-passes (u .function .requester) (msiUpper s r) (msiAddress s r) (msiData s r / granted s r * granted s r + v) (k .requester)
-      msi-upper (word32-lt (r .config) (s .msi .at + 4) (k .config)) (msi-value v (ltb-true v (granted s r) (o .enable)))
+      msi-upper (word32-lt (r .config) (s .msi .at + 4) (k .config)) (data-word s r v (ltb-true v (granted s r) (o .enable)) (k .config))
       (word-aligned (storedZero s) (r .config) (s .msi .at + 4) (k .ready .config) (msi-mask s (msi-at (o .force))))
   open-message Msix v h =
       message-passes (u .function .requester) (word32 (r .table) (16 * v + 4)) (word32 (r .table) (16 * v)) (word32 (r .table) (16 * v + 8)) (k .requester)

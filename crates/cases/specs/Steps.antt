@@ -72,10 +72,10 @@ caseSteps n bytes (suc k) l = rowSteps n bytes (rowOf (take 45 l)) ++ caseSteps 
 
 -- how many rows and cases the table has
 abbrev pub rowCount : ℕ
-rowCount = 117
+rowCount = 136
 
 abbrev pub caseCount : ℕ
-caseCount = 13
+caseCount = 15
 
 -- its rows are the model's cases, each under its number
 abbrev pub Plays : Table → Type 0

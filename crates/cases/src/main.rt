@@ -1,4 +1,4 @@
-// The bench cases of document 01, run on the code. Each call prints a line, and the packets that it sent.
+// The bench cases of document 01, and those of request [6] of document 02, run on the code. Each call prints a line, and the packets that it sent.
 // This file prints: what a call gives, and whether that is right, is in the modules.
 ghost use mathlib.Core.Path.{_≡_};
 ghost use Prim.Native.Nat.{_≤_};
@@ -144,7 +144,7 @@ fn print_answer(a: Answer, width: u8) {
 
 fn verdict(good: bool) {
     if good {
-        text(b"    as document 01 says\n");
+        text(b"    as the papers say\n");
     } else {
         text(b"    DIFFERENT\n");
     }
@@ -320,7 +320,7 @@ fn print_title(row: Row, bytes: &[u8]) {
     text(part(bytes, row.place as usize, row.size as usize));
 }
 
-// 1 for a case that is as document 01 says.
+// 1 for a case that is as the papers say.
 fn one(number: u8) -> u64
     requires { ⌜ (1 ≤ number) × (number ≤ caseCount) ⌝ }
     ensures { λ r. ⌜ r ≡ 1 ⌝ }
@@ -330,7 +330,7 @@ fn one(number: u8) -> u64
     if good { 1 } else { 0 }
 }
 
-// How many of the cases are as document 01 says.
+// How many of the cases are as the papers say.
 fn passed() -> u64
     ensures { λ r. ⌜ r ≡ caseCount ⌝ }
 {
@@ -348,5 +348,5 @@ fn main() {
     decimal(n);
     text(b" of ");
     decimal(table::CASE_COUNT as u64);
-    text(b" cases are as document 01 says\n");
+    text(b" cases are as the papers say\n");
 }

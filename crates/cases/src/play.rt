@@ -61,7 +61,7 @@ fn play_row(run: Run, number: u8, row: Row, bytes: &[u8]) -> Run
     run
 }
 
-// Whether the case with this number is as document 01 says.
+// Whether the case with this number is as the papers say.
 pub fn case(number: u8) -> bool
     ensures { λ r. ⌜ (1 ≤ number → number ≤ caseCount → r ≡ true) ⌝ }
 {

@@ -1,9 +1,9 @@
-// The bench cases of document 01 as one table of steps.
+// The bench cases of document 01, and those of request [6] of document 02, as one table of steps.
 ghost use Rattle.cases.specs.Steps.{Plays};
 
-pub const CASE_COUNT: u8 = 13;
+pub const CASE_COUNT: u8 = 15;
 
-pub const ROW_COUNT: usize = 117;
+pub const ROW_COUNT: usize = 136;
 
 // A row is a step of a case, in 45 characters:
 //
@@ -25,7 +25,7 @@ pub const ROW_COUNT: usize = 117;
 // v, the state, and the verdict in any case.
 pub struct Table {
     pub rows: [u8; 45 * ROW_COUNT],
-    pub bytes: [u8; 1770],
+    pub bytes: [u8; 2029],
 }
 
 // What calls should send, with place and length. Where document 01 gives no bytes, they follow from its section on packets.
@@ -41,8 +41,9 @@ pub struct Table {
 //   008C  20  MSI-X, data 31h: byte for byte in document 01 (cases 5 and 9)
 //   00FA 294  an image: ten bytes of document 01 and 284 zeros (case 11)
 //   05C4 294  the image of case 1's card before its event (case 12)
+//   06EA  16  MSI, data ABCD49A1h (case 14)
 //
-// The titles stand before the last image. Configurations: Status, the place of the first capability, the pin, and the bytes 40h to 4Bh. Every other byte is 0.
+// The titles stand before the last image, those of cases 14 and 15 behind it. Configurations: Status, the place of the first capability, the pin, and the bytes 40h to 4Bh. Every other byte is 0.
 //
 //   00A0  MSI of the 32-bit form without masks, Capable 3
 //   00AF  MSI-X with 1 vector, its table at the start of BAR 0, its pending array at 1000h of it
@@ -51,7 +52,9 @@ pub struct Table {
 //   00DC  4 vectors, the table at 40h of BAR 0, the pending array at the start of BAR 1
 //   00EB  no capability, pin 1
 //   0104  no capability, no pin
-const BYTES: [u8; 1770] = *b"\x40\x00\x00\x01\x01\x00\x00\x0f\xfe\xe0\x00\x00\xa1\x49\x00\x00\
+//   06FA  MSI of the 32-bit form without masks, Capable 2, with control bit 9
+//   0709  the same with control bit 10 in place of bit 9, and 1234h behind the data register
+const BYTES: [u8; 2029] = *b"\x40\x00\x00\x01\x01\x00\x00\x0f\xfe\xe0\x00\x00\xa1\x49\x00\x00\
 \x40\x00\x00\x01\x01\x00\x00\x0f\xfe\xe0\x00\x00\x45\x00\x00\x00\
 \x40\x00\x00\x01\x01\x00\x00\x0f\xfe\xe0\x00\x00\xa3\x49\x00\x00\
 \x60\x00\x00\x01\x01\x00\x00\x0f\x00\x00\x00\x01\xfe\xe0\x10\x00\x33\x00\x00\x00\
@@ -94,7 +97,12 @@ Case 12, continued: output of 15 bytes in case 1: 6, state unchanged; 16: sent\n
 \0\0\0\0\0\0\0\0\0\0\0\0\0\0\0\0\0\0\0\0\0\0\0\0\0\0\0\0\0\0\0\0\0\0\0\0\0\0\0\0\0\0\0\0\0\0\0\0\
 \0\0\0\0\0\0\0\0\0\0\0\0\0\0\0\0\0\0\0\0\0\0\0\0\0\0\0\0\0\0\0\0\0\0\0\0\0\0\0\0\0\0\0\0\0\0\0\0\
 \0\0\0\0\0\0\0\0\0\0\0\0\0\0\0\0\0\0\0\0\0\0\0\0\0\0\0\0\0\0\0\0\0\0\0\0\0\0\0\0\0\0\0\0\0\0\0\0\
-\0\0\0\0\0\0\0\0\0\0\0\0\0\0\0\0";
+\0\0\0\0\0\0\0\0\0\0\0\0\0\0\0\0\
+\x40\x00\x00\x01\x01\x00\x00\x0f\xfe\xe0\x00\x00\xa1\x49\xcd\xab\
+\x10\x40\x01\x05\x00\x04\x02\x00\x00\x00\x00\x00\x00\x00\x00\
+\x10\x40\x01\x05\x00\x04\x04\x00\x00\x00\x00\x00\x00\x34\x12\
+Case 14: MSI with bits 9 and 10, data ABCD49A3h, Enable 2, event 1: all 32 bits; bit 10 cleared: upper half 0\n\
+Case 15: bit 10 and an upper half 1234h without bit 9: neither can be written, the message has 0 there\n";
 
 const ROWS: [u8; 45 * ROW_COUNT] = *b"01 new   ---- 000 -------- ---- -- 0220 073 -\
 01 start 0000 004 00000000 done -- 00A0 --- -\
@@ -212,7 +220,26 @@ const ROWS: [u8; 45 * ROW_COUNT] = *b"01 new   ---- 000 -------- ---- -- 0220 07
 13 new   ---- 004 -------- ---- -- 052A 075 -\
 13 start 0008 004 00000080 done -- 00DC --- v\
 13 new   ---- 004 -------- ---- -- ---- --- -\
-13 start 0008 004 00000078 ref  14 00DC --- -";
+13 start 0008 004 00000078 ref  14 00DC --- -\
+14 new   ---- 000 -------- ---- -- 0718 110 -\
+14 start 0000 004 00000000 done -- 06FA --- -\
+14 write 0004 002 00000004 done -- ---- --- -\
+14 write 0044 004 FEE00000 done -- ---- --- -\
+14 write 0048 004 ABCD49A3 done -- ---- --- -\
+14 write 0042 002 00000421 done -- ---- --- -\
+14 event 0001 040 -------- sent -- 06EA 016 -\
+14 write 0042 002 00000021 done -- ---- --- -\
+14 event 0001 040 -------- sent -- 0000 016 s\
+15 new   ---- 000 -------- ---- -- 0786 103 -\
+15 start 0000 004 00000000 done -- 0709 --- -\
+15 write 0004 002 00000004 done -- ---- --- -\
+15 write 0044 004 FEE00000 done -- ---- --- -\
+15 write 0048 004 ABCD49A3 done -- ---- --- -\
+15 write 0042 002 00000421 done -- ---- --- -\
+15 read  0048 004 123449A3 val  -- ---- --- -\
+15 event 0001 040 -------- sent -- 0000 016 -\
+15 write 0042 002 00000021 done -- ---- --- -\
+15 read  0042 002 00000425 val  -- ---- --- s";
 
 // The table. Its rows are the model's cases.
 pub fn bench() -> Table

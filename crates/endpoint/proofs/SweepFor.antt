@@ -1,15 +1,19 @@
 -- The sweep of each mechanism, as the code finds it. Assumes nothing.
 use mathlib.Core.Path.{_≡_, refl, sym, ap, _∙_}
-use mathlib.Core.Bool.{Bool, true, false, not, _&&_}
+use mathlib.Core.Bool.{Bool, true, false, not, _&&_, false≢true}
 use mathlib.Core.List.{List, []}
 use Prim.Native.Nat.{ℕ, _+_, _≤_, _<_, _^_}
 use native.Mathlib.Omega.{arith}
+use lib.Dec.{ltb}
 use lib.ListN.{length}
-use borrow.Author.Tests.{lt-ltb}
-use Rattle.words.specs.Lists.{join, keep, count}
-use Rattle.words.specs.Bits.{clear}
+use borrow.Author.Tests.{lt-ltb, ltb-true, ltb-false}
+use Rattle.words.specs.Lists.{join, keep, count, member}
+use Rattle.words.specs.Bits.{bit, clear}
 use Rattle.words.specs.Writers.{Wrote}
-use Rattle.words.proofs.ListLaws.{keep-same, member-count, join-same}
+use Rattle.words.proofs.BitLaws.{bit-above}
+use Rattle.words.proofs.BoolLaws.{both, by-test}
+use Rattle.words.proofs.ListLaws.{keep-same, member-count, count-member, member-keep, join-same}
+use Rattle.model.proofs.Vectors.SweepLaws.{open-parts}
 use Rattle.model.specs.declared.Mode.{Mode}
 use Rattle.model.specs.declared.Mode.the-variants.{Pin, Msi, Msix}
 use Rattle.model.specs.declared.Shape.{Shape}
@@ -18,7 +22,7 @@ use Rattle.model.specs.World.{Endpoint, registers, withWaiting, endpointOf}
 use Rattle.model.specs.Vectors.{owed, isOpen, waits, masked, vectorCount, modeOf, inForce, msixControlBit, msiControlBit, enabled, granted, enableField, commandBit, entryMasked, pendingBit}
 use Rattle.model.specs.declared.Function.{Function}
 use Rattle.endpoint.specs.declared.sweep.Sent.{Sent}
-use Rattle.model.specs.Packets.{message, messageOf, msiUpper, msiAddress, msiData, entryMessage}
+use Rattle.model.specs.Packets.{message, messageOf, msiUpper, msiAddress, dataExtended, msiData, entryMessage}
 use Rattle.model.specs.Release.{owedNow, swept, sweepBytes, clearAll, bytesFor, sweptFor}
 use Rattle.vectors.specs.Given.{regs}
 use Rattle.vectors.specs.Enabled.{msixEnabled}
@@ -60,6 +64,19 @@ msi-bytes s u w b e q =
     ap (join (messageOf Msi s (u .function .requester) (registers u))) e
     ∙ join-same (messageOf Msi s (u .function .requester) (registers u)) (λ v. message (u .function .requester) (b .upper) (b .address) (b .value + v)) (setBits 32 w)
     (λ v. sym (base-message s (registers u) (u .function .requester) v) ∙ ap (λ (x : Message). message (u .function .requester) (x .upper) (x .address) (x .value + v)) (sym q))
+
+-- each of them is granted
+pub owed-granted : (s : Shape) (u : Endpoint) (w v : ℕ) → owed Msi s u ≡ setBits 32 w → w < 2 ^ 32 → bit w v ≡ true → v < granted s (registers u)
+unfolding owed enabled
+owed-granted s u w v e h b =
+    let within : v < 32 = by-test (ltb v 32) (ltb-true v 32) (λ t. absurd (false≢true (sym (bit-above 32 w v h (ltb-false v 32 t)) ∙ b))) in
+    let listed : member v (setBits 32 w) ≡ true = member-keep (bit w) (count 0 32) v ∙ rw (b, count-member 0 32 v (omega arith) within) in
+    let o : ℕ → Bool = λ x. isOpen Msi s (registers u) x && waits Msi u x in
+    let mine : (o v && member v (count 0 (vectorCount Msi s))) ≡ true =
+    sym (member-keep o (count 0 (vectorCount Msi s)) v) ∙ ap (member v) e ∙ listed in
+    let owes = both (o v) (member v (count 0 (vectorCount Msi s))) mine .0 in
+    let opened = both (isOpen Msi s (registers u) v) (waits Msi u v) owes .0 in
+    ltb-true v (granted s (registers u)) (open-parts Msi s (registers u) v opened .enable)
 
 pub msi-swept : (s : Shape) (u : Endpoint) (w : ℕ) → owed Msi s u ≡ setBits 32 w → w < 2 ^ 32 → sweptFor Msi s u ≡ withWaiting u (clear w (u .function .waiting)) (u .pending)
 unfolding sweptFor
@@ -121,7 +138,7 @@ none-sent bytes u u′ o e q = record { sent = rw (← e) (record { count = refl
 pub msi-anywhere : (s : Shape) (f : Function) (t p t′ p′ : List ℕ) → bytesFor Msi s (endpointOf f t p) ≡ bytesFor Msi s (endpointOf f t′ p′)
 unfolding
     bytesFor owed vectorCount isOpen inForce modeOf msixControlBit msiControlBit enabled granted enableField masked commandBit waits
-    messageOf msiUpper msiAddress msiData entryMasked entryMessage pendingBit
+    messageOf msiUpper msiAddress dataExtended msiData entryMasked entryMessage pendingBit
 msi-anywhere s f t p t′ p′ = refl
 
 pub msix-room : (s : Shape) (f : Function) (t p : List ℕ) (n : ℕ) → msixEnabled s (regs (f .config) t) ≡ true → length t ≡ tableBytes s

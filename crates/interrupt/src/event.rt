@@ -1,5 +1,6 @@
 // Events.
 ghost use mathlib.Core.Path.{_≡_};
+ghost use mathlib.Core.Bool.{true};
 ghost use mathlib.Core.List.{List};
 ghost use Prim.Native.Nat.{ℕ, _≤_, _<_};
 ghost use lib.ListN.{length};
@@ -7,10 +8,10 @@ ghost use Rattle.words.specs.Bits.{setBit};
 ghost use Rattle.model.specs.Shape.{tableBytes, pendingBytes};
 ghost use Rattle.model.specs.Fit.{Fit};
 ghost use Rattle.model.specs.World.{Endpoint, worldOf, withWaiting};
-ghost use Rattle.model.specs.Vectors.{vectorCount, changeWaiting};
+ghost use Rattle.model.specs.Vectors.{vectorCount, enabled, changeWaiting};
 ghost use Rattle.model.specs.Release.{raiseVector};
 ghost use Rattle.model.specs.Calls.{performed, step, event, raiseOf};
-ghost use Rattle.vectors.specs.Given.{Profiled};
+ghost use Rattle.vectors.specs.Given.{regs, Profiled};
 ghost use Rattle.card.specs.Outcomes.{after};
 ghost use Rattle.interrupt.specs.Raises.{sentBy, eachCard, eachRunning, SomeRunning, fated};
 use card::outcome::Outcome;
@@ -48,7 +49,7 @@ fn hold(waiting: u32, s: Shape, m: Mode, pending: &mut [u8], v: Vector) -> u32
     }
 }
 
-// Vector v is open: its message, or 6.
+// Vector v is enabled: its message, or 6.
 fn send(
     config: &[u8; 256],
     requester: u16,
@@ -58,7 +59,7 @@ fn send(
     v: Vector,
     out: &mut [u8],
 ) -> Fate
-    requires { ⌜ Profiled (now config) k × (length (now table) ≡ tableBytes (k .shape)) × (v .0 < vectorCount (k .mode) (k .shape)) ⌝ }
+    requires { ⌜ Profiled (now config) k × (length (now table) ≡ tableBytes (k .shape)) × (enabled (k .mode) (k .shape) (regs (now config) (now table)) (v .0) ≡ true) ⌝ }
     ensures { λ r. ⌜ ((p : List ℕ)
         → eachCard (now (config .entry)) requester waiting
         (λ card. after (fated card r) (now (table .entry)) p (now (out .exit))

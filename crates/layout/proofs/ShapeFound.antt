@@ -22,8 +22,8 @@ use Rattle.layout.specs.Shapes.{msiFound, msixFound, Place, Bounded}
 use Rattle.layout.specs.declared.capability.Listing.{Listing}
 use Rattle.layout.proofs.Places.{first-place}
 
-abbrev msiShape : ℕ → ℕ → Bool → Bool → MsiShape
-msiShape at capable wide masks = record { at = at; capable = capable; wide = wide; masks = masks }
+abbrev msiShape : ℕ → ℕ → Bool → Bool → Bool → MsiShape
+msiShape at capable wide masks extended = record { at = at; capable = capable; wide = wide; masks = masks; extended = extended }
 
 abbrev msixShape : ℕ → ℕ → Region → Region → MsixShape
 msixShape at vectors table pending = record { at = at; vectors = vectors; table = table; pending = pending }
@@ -32,7 +32,7 @@ module _ (c : List ℕ) where
   -- ---- a capability from the two bytes of its control register
 
   pub msi-read : (a low high : ℕ) → low ≡ byte c (a + 2) → high ≡ byte c (a + 3)
-      → msiShape a (low / 2 % 8) (eqb (low / 128 % 2) 1) (eqb (high % 2) 1) ≡ msiAt c a
+      → msiShape a (low / 2 % 8) (eqb (low / 128 % 2) 1) (eqb (high % 2) 1) (eqb (high / 2 % 2) 1) ≡ msiAt c a
   unfolding msiAt bitAt bit field
   msi-read a low high e f =
       let z : a + 2 + 0 ≡ a + 2 = omega arith in

@@ -1,6 +1,8 @@
 // The four forms of the MSI capability.
 ghost use mathlib.Core.Path.{_≡_};
-ghost use Rattle.model.specs.Shape.{formOf};
+ghost use mathlib.Core.Bool.{not, cond, _&&_};
+ghost use Prim.Native.Nat.{_≤_};
+ghost use Rattle.model.specs.Shape.{forms, formOf};
 use model::Form;
 use model::Shape;
 
@@ -37,10 +39,32 @@ const FORMS: [Form; 4] = [
     },
 ];
 
+fn form_row(s: Shape) -> Form
+    ensures { λ r. ⌜ (r ≡ forms (s .msi .masks) (s .msi .wide)) × (r .size ≤ 24) ⌝ }
+{
+    let row = (s.msi.wide as usize) + 2 * (s.msi.masks as usize);
+    FORMS[row]
+}
+
+// With control bit 9 (extended message data) the unmasked forms are two bytes longer.
+fn upper_data(extended: bool, masks: bool) -> usize
+    ensures { λ r. ⌜ (r ≡ cond (extended && not masks) 2 0) × (r ≤ 2) ⌝ }
+{
+    if extended {
+        return if masks { 0 } else { 2 };
+    }
+    0
+}
+
 // The form of a card's MSI.
 pub fn form(s: Shape) -> Form
     ensures { λ r. ⌜ r ≡ formOf s ⌝ }
 {
-    let row = (s.msi.wide as usize) + 2 * (s.msi.masks as usize);
-    FORMS[row]
+    let f = form_row(s);
+    Form {
+        message: f.message,
+        mask: f.mask,
+        pending: f.pending,
+        size: f.size + upper_data(s.msi.extended, s.msi.masks),
+    }
 }

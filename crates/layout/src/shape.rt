@@ -30,6 +30,7 @@ fn msi_at(c: &[u8], a: usize) -> MsiShape
         capable: low / 2 % 8,
         wide: low / 128 % 2 == 1,
         masks: high % 2 == 1,
+        extended: high / 2 % 2 == 1,
     }
 }
 
@@ -83,6 +84,7 @@ fn msi_found(c: &[u8], f: Found) -> MsiShape
             capable: 0,
             wide: false,
             masks: false,
+            extended: false,
         };
     }
     msi_at(c, f.first)

@@ -26,12 +26,12 @@ unfolding
     Capabilities.pointer Capabilities.walkStep Capabilities.walk Capabilities.capabilities Capabilities.broken Capabilities.listed Capabilities.withId
     Shape.forms Shape.formOf Shape.msiAt Shape.regionAt Shape.msixAt Shape.noMsi Shape.noMsix Shape.msiOf Shape.msixOf Shape.shapeIn Shape.shapeOf Shape.msiPresent
     Shape.msixPresent Shape.msiVectors Shape.tableBytes Shape.pendingBytes
-    Registers.headerWritable Registers.headerZero Registers.maskBytes Registers.inMask Registers.inPendingRegister Registers.msiWritable Registers.msiZero
+    Registers.headerWritable Registers.headerZero Registers.maskBytes Registers.inMask Registers.inPendingRegister Registers.dataBytes Registers.msiWritable Registers.msiZero
     Registers.msixWritable Registers.inMsi Registers.inMsix Registers.writable Registers.storedZero Registers.fixedByte Registers.entryWritable Registers.entryZero
     Registers.written Registers.shown Registers.inRegion Registers.inTable Registers.inPending Registers.barByte Registers.startedConfig Registers.startedTable
     Vectors.commandBit Vectors.msiControlBit Vectors.msixControlBit Vectors.enableField Vectors.modeOf Vectors.sameMode Vectors.inForce Vectors.granted Vectors.entryMasked
     Vectors.masked Vectors.enabled Vectors.isOpen Vectors.vectorOf Vectors.means Vectors.pendingBit Vectors.waits Vectors.changeWaiting Vectors.vectorCount Vectors.owed
-    Packets.message Packets.wireMessage Packets.msiAddress Packets.msiUpper Packets.msiData Packets.entryMessage Packets.messageOf
+    Packets.message Packets.wireMessage Packets.msiAddress Packets.msiUpper Packets.dataExtended Packets.msiData Packets.entryMessage Packets.messageOf
     Release.pinNumber Release.isPin Release.levelDue Release.wireDue Release.wireChange Release.clearAll Release.sweptFor Release.bytesFor Release.owedNow Release.swept
     Release.sweepBytes Release.settleBytes Release.raiseVector Release.raise Release.raisedBy
     Start.badHeader Start.twice Start.misplaced Start.badStructures Start.outside Start.badRegions Start.badEvents Start.badRequester Start.badBuffers Start.startRefusal

@@ -1,4 +1,5 @@
--- The worked examples: for each number of document 01 a case in which it shows, computed. docs/NUMBERS.md has the list. Assumes nothing.
+-- The worked examples: for each number of document 01, and of request [6], a case in which it shows, computed. docs/NUMBERS.md has the list.
+-- Assumes nothing.
 use lib.Dec.{T}
 use Rattle.model.specs.Play.{allPass}
 use Rattle.model.specs.Examples.Parts.{agree}
@@ -11,6 +12,7 @@ use Rattle.model.specs.Examples.Wires
 use Rattle.model.specs.Examples.Refusals
 use Rattle.model.specs.Examples.Images
 use Rattle.model.specs.Examples.Restores
+use Rattle.model.specs.Examples.Extended
 use Rattle.model.proofs.Definitions.{definitions}
 
 -- answers, a card's bytes, vectors, lengths of images
@@ -57,3 +59,13 @@ images = tt
 pub restores : T (agree Restores.restores)
 unfolding definitions
 restores = tt
+
+-- 32-bit MSI data
+pub extended : T (allPass Extended.extended)
+unfolding definitions
+extended = tt
+
+-- the lengths of a capability with 32-bit data
+pub lengths : T (agree Extended.lengths)
+unfolding definitions
+lengths = tt

@@ -8,6 +8,10 @@ pub mod BytesReached
 pub mod ImageExact
 pub mod ImageRefused
 pub mod CardExact
+pub mod MessageData
+pub mod OldImages
+pub mod OnlyBit9
+pub mod SameVerdicts
 pub mod SoundKept
 pub mod TypedKept
 pub mod Starred

@@ -3,3 +3,4 @@ pub mod CapabilityLaws
 pub mod PlaceLaws
 pub mod ShapeLaws
 pub mod FitLaws
+pub mod AlignedLaws

@@ -1,4 +1,4 @@
--- Document 01, "Bench cases", as tables of calls, and cases for the errors that tempt. Assumes nothing.
+-- Document 01, "Bench cases", as tables of calls, two cases of request [6], and cases for the errors that tempt. Assumes nothing.
 use mathlib.Core.Bool.{Bool, true, false}
 use mathlib.Core.List.{List, [], _∷_, _++_}
 use Prim.Native.Nat.{ℕ, suc, _+_, _-_, _*_}
@@ -111,6 +111,10 @@ oneVector x = command x ∷ entry 0 0x31 ++ (unmask 0 [] ∷ [])
 abbrev pub message32 : (low high : ℕ) → List ℕ
 message32 low high = 0x40 ∷ 0 ∷ 0 ∷ 1 ∷ 1 ∷ 0 ∷ 0 ∷ 0x0f ∷ 0xfe ∷ 0xe0 ∷ 0 ∷ 0 ∷ low ∷ high ∷ 0 ∷ 0 ∷ []
 
+-- the same with all four bytes of the data
+abbrev pub messageOf32 : (a b c d : ℕ) → List ℕ
+messageOf32 a b c d = 0x40 ∷ 0 ∷ 0 ∷ 1 ∷ 1 ∷ 0 ∷ 0 ∷ 0x0f ∷ 0xfe ∷ 0xe0 ∷ 0 ∷ 0 ∷ a ∷ b ∷ c ∷ d ∷ []
+
 abbrev pub message64 : ℕ → List ℕ
 message64 low = 0x60 ∷ 0 ∷ 0 ∷ 1 ∷ 1 ∷ 0 ∷ 0 ∷ 0x0f ∷ 0 ∷ 0 ∷ 0 ∷ 1 ∷ 0xfe ∷ 0xe0 ∷ 0x10 ∷ 0 ∷ low ∷ 0 ∷ 0 ∷ 0 ∷ []
 
@@ -211,9 +215,32 @@ case13 = tableEnds 0x80 Done ++ tableEnds 0x78 (Refused 14)
 abbrev pub limitCases : List (List Step)
 limitCases = case12 ∷ case13 ∷ []
 
+-- ---- cases 14 and 15: 32-bit MSI data, Capable 2, data register ABCD49A3h
+
+-- bus mastering and MSI on, Enable 2, bit 10 written with 1
+abbrev pub dataCase : (config : List ℕ) → List Step → List Step
+dataCase config steps =
+    startCase config (sizesOf 0 0) 4 0
+    (command 0x0004 ∷ writes 0x44 4 0xfee00000 [] ∷ writes 0x48 4 0xabcd49a3 [] ∷ control 0x0421 [] ∷ steps)
+
+-- bit 9: all 32 bits; with bit 10 clear the upper half is 0
+abbrev pub case14 : List Step
+case14 =
+    dataCase (capability 0x40 0x05 0 0x0204 (listFrom 0x40))
+    (raises 1 40 Sent (messageOf32 0xa1 0x49 0xcd 0xab) ∷ control 0x0021 [] ∷ raises 1 40 Sent (message32 0xa1 0x49) ∷ [])
+
+-- bit 10 and an upper half of 1234h as given, no bit 9: neither can be written, and the message has 0 there
+abbrev pub case15 : List Step
+case15 =
+    dataCase (put 0x4a (0x34 ∷ 0x12 ∷ []) (capability 0x40 0x05 0 0x0404 (listFrom 0x40)))
+    (readsConfig 0x48 4 0x123449a3 ∷ raises 1 40 Sent (message32 0xa1 0x49) ∷ control 0x0021 [] ∷ readsConfig 0x42 2 0x0425 ∷ [])
+
+abbrev pub dataCases : List (List Step)
+dataCases = case14 ∷ case15 ∷ []
+
 -- the bench cases in the order of their numbers
 abbrev pub benchCases : List (List Step)
-benchCases = starredCases ++ limitCases
+benchCases = starredCases ++ limitCases ++ dataCases
 
 -- ---- for the errors that tempt
 

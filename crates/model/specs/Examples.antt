@@ -7,5 +7,6 @@ pub mod Wires
 pub mod Refusals
 pub mod Images
 pub mod Restores
+pub mod Extended
 pub mod Numbers
 pub mod Longest

@@ -13,6 +13,8 @@ pub mod Ready
 pub mod Image
 pub mod Calls
 pub mod Trials
+pub mod Data16
+pub mod Extended
 pub mod Since
 pub mod History
 pub mod Claims

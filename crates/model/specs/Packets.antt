@@ -1,5 +1,5 @@
--- Document 01, "Packets", as bytes. Assumes nothing.
-use mathlib.Core.Bool.{Bool, cond}
+-- Document 01, "Packets", as bytes, with the 32-bit data of request [6]. Assumes nothing.
+use mathlib.Core.Bool.{Bool, cond, _&&_}
 use mathlib.Core.List.{List, [], _∷_, _++_}
 use Prim.Native.Nat.{ℕ, _+_, _*_, _/_}
 use lib.Dec.{eqb}
@@ -10,7 +10,7 @@ use Rattle.model.specs.declared.Mode.{Mode}
 use Rattle.model.specs.declared.Mode.the-variants.{Pin, Msi, Msix}
 use Rattle.model.specs.Shape.{formOf}
 use Rattle.model.specs.World.{Registers}
-use Rattle.model.specs.Vectors.{granted}
+use Rattle.model.specs.Vectors.{granted, msiControlBit}
 
 -- a memory write of one word: three header words with upper address 0, else four
 unfoldable pub message : (requester upper address value : ℕ) → List ℕ
@@ -42,9 +42,15 @@ msiAddress s r = word32 (r .config) (s .msi .at + 4)
 unfoldable pub msiUpper : Shape → Registers → ℕ
 msiUpper s r = cond (s .msi .wide) (word32 (r .config) (s .msi .at + 8)) 0
 
--- the 16-bit data register
+-- Extended Message Data: control bits 9 (capable) and 10 (enabled) are both set
+unfoldable pub dataExtended : Shape → Registers → Bool
+dataExtended s r = s .msi .extended && msiControlBit s r 10
+
+-- all 32 bits of the data while both are set, else the 16-bit data register: the upper half is 0
 unfoldable pub msiData : Shape → Registers → ℕ
-msiData s r = word16 (r .config) (s .msi .at + formOf s .message)
+msiData s r =
+    let a : ℕ = s .msi .at + formOf s .message in
+    cond (dataExtended s r) (word32 (r .config) a) (word16 (r .config) a)
 
 -- ---- the message of vector v, by the registers as they are
 

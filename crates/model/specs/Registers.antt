@@ -1,4 +1,5 @@
--- Document 01, "Registers": which bits are writable, which are stored as 0, what a read shows and a write changes. A bit mask for each byte.
+-- Document 01, "Registers", with the 32-bit data of request [6]: which bits are writable, which are stored as 0, what a read shows and a write changes.
+-- A bit mask for each byte.
 -- Assumes nothing.
 use mathlib.Core.Bool.{Bool, true, cond, _&&_}
 use mathlib.Core.List.{List, [], _∷_, _++_}
@@ -35,16 +36,21 @@ inMask s k = s .msi .masks && within (formOf s .mask) 4 k
 unfoldable pub inPendingRegister : Shape → ℕ → Bool
 inPendingRegister s k = s .msi .masks && within (formOf s .pending) 4 k
 
--- control bits 0 and 6:4; address bits 31:2; upper address; 16-bit data; mask bits below 2^Capable
+-- the bytes of the data: with control bit 9 the 16 bits after the data register, too
+unfoldable pub dataBytes : Shape → ℕ
+dataBytes s = cond (s .msi .extended) 4 2
+
+-- control bits 0 and 6:4, and with bit 9 bit 10; address bits 31:2; upper address; data; mask bits below 2^Capable
 unfoldable pub msiWritable : Shape → ℕ → ℕ
 msiWritable s k =
     firstOf
     ((0x71, eqb k 2)
+    ∷ (0x04, eqb k 3 && s .msi .extended)
     ∷ (0x00, ltb k 4)
     ∷ (0xfc, eqb k 4)
     ∷ (0xff, ltb k 8)
     ∷ (0xff, s .msi .wide && ltb k 12)
-    ∷ (0xff, within (formOf s .message) 2 k)
+    ∷ (0xff, within (formOf s .message) (dataBytes s) k)
     ∷ (byte (maskBytes s) (k - formOf s .mask), inMask s k)
     ∷ [])
 

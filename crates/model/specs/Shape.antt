@@ -1,5 +1,5 @@
 -- What the 256 configuration bytes say of MSI and MSI-X: presence, form, Capable, N and the places in the BARs. Assumes nothing.
-use mathlib.Core.Bool.{Bool, true, false, not, cond}
+use mathlib.Core.Bool.{Bool, true, false, not, cond, _&&_}
 use mathlib.Core.List.{List, [], _∷_}
 use Prim.Native.Nat.{ℕ, _+_, _*_, _/_, _%_, _^_}
 use lib.Dec.{eqb}
@@ -24,14 +24,16 @@ forms false true = row 0x0c 0 0 14
 forms true false = row 0x08 0x0c 0x10 20
 forms true true = row 0x0c 0x10 0x14 24
 
--- the form of a card's MSI
+-- the form of a card's MSI: with control bit 9 the unmasked forms hold 12 and 16 bytes
 unfoldable pub formOf : Shape → Form
-formOf s = forms (s .msi .masks) (s .msi .wide)
+formOf s =
+    let f : Form = forms (s .msi .masks) (s .msi .wide) in
+    row (f .message) (f .mask) (f .pending) (f .size + cond (s .msi .extended && not (s .msi .masks)) 2 0)
 
 -- ---- the capability at place a: its control register is at a + 2
 
 unfoldable pub msiAt : List ℕ → ℕ → MsiShape
-msiAt c a = record { at = a; capable = field (byte c (a + 2)) 1 3; wide = bitAt c (a + 2) 7; masks = bitAt c (a + 2) 8 }
+msiAt c a = record { at = a; capable = field (byte c (a + 2)) 1 3; wide = bitAt c (a + 2) 7; masks = bitAt c (a + 2) 8; extended = bitAt c (a + 2) 9 }
 
 -- a BIR and the offset above it
 unfoldable pub regionAt : List ℕ → ℕ → Region
@@ -42,7 +44,7 @@ unfoldable pub msixAt : List ℕ → ℕ → MsixShape
 msixAt c a = record { at = a; vectors = byte c (a + 2) + 256 * field (byte c (a + 3)) 0 3 + 1; table = regionAt c (a + 4); pending = regionAt c (a + 8) }
 
 unfoldable pub noMsi : MsiShape
-noMsi = record { at = 0; capable = 0; wide = false; masks = false }
+noMsi = record { at = 0; capable = 0; wide = false; masks = false; extended = false }
 
 unfoldable pub noMsix : MsixShape
 noMsix = record { at = 0; vectors = 0; table = record { bar = 0; at = 0 }; pending = record { bar = 0; at = 0 } }

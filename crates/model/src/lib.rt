@@ -49,13 +49,14 @@ pub struct Region {
     pub at: usize,
 }
 
-// The MSI capability at configuration byte `at`: Multiple Message Capable, 64-bit addresses, per-vector masks.
+// The MSI capability at configuration byte `at`: Multiple Message Capable, 64-bit addresses, per-vector masks, extended message data.
 // All zero where there is none.
 pub struct MsiShape {
     pub at: usize,
     pub capable: usize,
     pub wide: bool,
     pub masks: bool,
+    pub extended: bool,
 }
 
 // The MSI-X capability at configuration byte `at`: N, the table and the pending array. All zero where there is none.

@@ -1,6 +1,6 @@
--- What a start does to the MSI capability: bits of byte 2 are cleared; address, data, masks and Pending are 0; the rest stays. Assumes nothing.
+-- What a start does to the MSI capability: bits of bytes 2 and 3 are cleared; address, data, masks and Pending are 0; the rest stays. Assumes nothing.
 use mathlib.Core.Path.{_≡_, refl, sym, ap, ap₂, _∙_, subst}
-use mathlib.Core.Bool.{Bool, true, false, not, _&&_}
+use mathlib.Core.Bool.{Bool, true, false, not, cond, _&&_}
 use mathlib.Core.List.{List}
 use Prim.Native.Nat.{ℕ, _+_, _-_, _≤_, _<_, min}
 use native.Mathlib.Omega.{arith}
@@ -14,10 +14,10 @@ use Rattle.words.proofs.BoolLaws.{both, and-intro, by-test, not-between}
 use Rattle.words.proofs.ListLaws.{within-true, true-within, not-within}
 use Rattle.model.specs.declared.Form.{Form}
 use Rattle.model.specs.declared.Shape.{Shape}
-use Rattle.model.specs.Shape.{formOf, forms}
-use Rattle.model.specs.Registers.{maskBytes, msiWritable, msiZero, fixedByte}
+use Rattle.model.specs.Shape.{row, formOf, forms}
+use Rattle.model.specs.Registers.{maskBytes, dataBytes, msiWritable, msiZero, fixedByte}
 use Rattle.registers.specs.Parts.{partOf, partFixed, partZero}
-use Rattle.registers.proofs.MaskLaws.{control-writable, address-writable, low-zero, data-byte, mask-register, not-writable, shut-mask, pending-register, msi-byte}
+use Rattle.registers.proofs.MaskLaws.{data-most, control-writable, address-writable, low-zero, data-byte, mask-register, not-writable, shut-mask, pending-register, msi-byte}
 
 -- ---- bytes of which every bit is cleared
 
@@ -37,26 +37,36 @@ all-clear : (x : ℕ) → x < 256 → clear 0xff x ≡ 0
 unfolding clear
 all-clear x h = ap (clear 0xff) (sym (clear-none x)) ∙ both-clear 0xff x h
 
--- ---- the four forms: two bytes stand behind the data, if anything does
+-- ---- the four forms, with n bytes of data: the masks follow four bytes behind the start of the data, if anything does
 
-record Runs (f : Form) : Type 0 where
+record Runs (n : ℕ) (f : Form) : Type 0 where
   low : 8 ≤ f .message
   high : f .message ≤ 12
-  data-end : f .message + 2 ≤ f .size
-  more : f .message + 2 < f .size → (f .mask ≡ f .message + 4) × (f .pending ≡ f .message + 8) × (f .size ≡ f .message + 12)
+  data-end : f .message + n ≤ f .size
+  more : f .message + n < f .size → (f .mask ≡ f .message + 4) × (f .pending ≡ f .message + 8) × (f .size ≡ f .message + 12)
 
-runs : (s : Shape) → Runs (formOf s)
-unfolding formOf forms
-runs s = go (s .msi .masks) (s .msi .wide)
+unmasked : (extended : Bool) (a z : ℕ) → z ≡ a + 2 → (a + cond extended 4 2 ≡ z + cond (extended && true) 2 0)
+unmasked true a z e = omega arith
+unmasked false a z e = omega arith
+
+with-masks : (extended : Bool) (z : ℕ) → (cond extended 4 2 ≤ 4) × (z + cond (extended && false) 2 0 ≡ z)
+with-masks true z = (omega arith, omega arith)
+with-masks false z = (omega arith, omega arith)
+
+runs : (s : Shape) → Runs (dataBytes s) (formOf s)
+unfolding formOf forms dataBytes
+runs s = go (s .msi .extended) (s .msi .masks) (s .msi .wide)
   where
-    go : (masks wide : Bool) → Runs (forms masks wide)
-    go false false = record { low = omega arith; high = omega arith; data-end = omega arith; more = λ h. absurd (omega arith) }
-    go false true = record { low = omega arith; high = omega arith; data-end = omega arith; more = λ h. absurd (omega arith) }
-    go true false = record { low = omega arith; high = omega arith; data-end = omega arith; more = λ h. (refl, refl, refl) }
-    go true true = record { low = omega arith; high = omega arith; data-end = omega arith; more = λ h. (refl, refl, refl) }
+    go : (extended masks wide : Bool)
+        → let f : Form = forms masks wide in
+        Runs (cond extended 4 2) (row (f .message) (f .mask) (f .pending) (f .size + cond (extended && not masks) 2 0))
+    go extended false false = let u = unmasked extended 8 10 refl in record { low = omega arith; high = omega arith; data-end = omega arith; more = λ h. absurd (omega arith) }
+    go extended false true = let u = unmasked extended 12 14 refl in record { low = omega arith; high = omega arith; data-end = omega arith; more = λ h. absurd (omega arith) }
+    go extended true false = let m = with-masks extended 20 in record { low = omega arith; high = omega arith; data-end = omega arith; more = λ h. (refl, refl, m .1) }
+    go extended true true = let m = with-masks extended 24 in record { low = omega arith; high = omega arith; data-end = omega arith; more = λ h. (refl, refl, m .1) }
 
 pub message-small : (s : Shape) (f : Form) → f ≡ formOf s → f .message ≤ 12
-message-small s f e = subst Runs (sym e) (runs s) .high
+message-small s f e = subst (Runs (dataBytes s)) (sym e) (runs s) .high
 
 -- a place before the n from lo on
 ahead : (lo n k : ℕ) → k < lo → within lo n k ≡ false
@@ -65,8 +75,8 @@ ahead lo n k h = by-test (within lo n k) (λ t. absurd (omega (arith, within-tru
 -- ---- configuration byte k of the structure: f is its form
 
 module _ (s : Shape) (f : Form) (e : f ≡ formOf s) (h : 64 ≤ s .msi .at) (k x : ℕ) where
-  run : Runs f
-  run = subst Runs (sym e) (runs s)
+  run : Runs (dataBytes s) f
+  run = subst (Runs (dataBytes s)) (sym e) (runs s)
 
   fixed-msi : s .msi .at ≤ k → k < s .msi .at + f .size → (w z : ℕ) → w ≡ msiWritable s (k - s .msi .at) → z ≡ msiZero s (k - s .msi .at)
       → fixedByte s k x ≡ clear w (clear z x)
@@ -75,7 +85,7 @@ module _ (s : Shape) (f : Form) (e : f ≡ formOf s) (h : 64 ≤ s .msi .at) (k 
       let t = msi-byte s k (f .size) (ap (λ (g : Form). g .size) e) (omega arith) (true-within (s .msi .at) (f .size) k i j) in
       ap₂ (λ (m n : ℕ). clear m (clear n x)) (t .0 ∙ sym p) (t .1 ∙ sym q)
 
-  address-zero : x < 256 → s .msi .at + 4 ≤ k → k < s .msi .at + (f .message + 2) → fixedByte s k x ≡ 0
+  address-zero : x < 256 → s .msi .at + 4 ≤ k → k < s .msi .at + (f .message + dataBytes s) → fixedByte s k x ≡ 0
   unfolding clear
   address-zero b i j =
       let d = k - s .msi .at in
@@ -85,15 +95,16 @@ module _ (s : Shape) (f : Form) (e : f ≡ formOf s) (h : 64 ≤ s .msi .at) (k 
       fixed-msi (omega arith) l 0xfc 0x03 (sym (address-writable s d q)) (sym (low-zero s d (omega arith) ∙ rw t)) ∙ both-clear 0xfc x b)
       (λ t. let q : d ≡ 4 → ⊥ = eqb-false d 4 t in
       let z = msiZero s d in
-      fixed-msi (omega arith) l 0xff z (data-byte s f e d (omega (arith, q)) (omega (arith, run .low))) refl
+      fixed-msi (omega arith) l 0xff z (data-byte s f e d (omega (arith, q)) (omega (arith, run .low, data-most s))) refl
       ∙ all-clear (clear z x) (omega (arith, clear-le z x)))
 
   masks-zero : x < 256 → s .msi .at + (f .message + 4) ≤ k → k < s .msi .at + f .size → fixedByte s k x ≡ 0
   unfolding clear
   masks-zero b i j =
       let d = k - s .msi .at in
-      let r = run .more (omega arith) in
+      let r = run .more (omega (arith, data-most s)) in
       let l = run .low in
+      let n = data-most s in
       by-test (ltb d (f .mask + 4))
       (λ t. let w : within (f .mask) 4 d ≡ true = true-within (f .mask) 4 d (omega arith) (ltb-true d (f .mask + 4) t) in
       let m = byte (maskBytes s) (d - f .mask) in
@@ -107,16 +118,16 @@ module _ (s : Shape) (f : Form) (e : f ≡ formOf s) (h : 64 ≤ s .msi .at) (k 
   stays : s .msi .at ≤ k → k < s .msi .at + f .size → 0 ≡ msiWritable s (k - s .msi .at) → 0 ≡ msiZero s (k - s .msi .at) → fixedByte s k x ≡ x
   stays i j p q = fixed-msi i j 0 0 p q ∙ clear-none (clear 0 x) ∙ clear-none x
 
-  -- bytes 0, 1 and 3
-  control-stays : s .msi .at ≤ k → k < s .msi .at + 4 → (s .msi .at + 2 ≤ k → s .msi .at + 3 ≤ k) → fixedByte s k x ≡ x
+  -- bytes 0 and 1
+  control-stays : s .msi .at ≤ k → k < s .msi .at + 4 → (s .msi .at + 2 ≤ k → s .msi .at + 4 ≤ k) → fixedByte s k x ≡ x
   control-stays i j n =
       let d = k - s .msi .at in
       let l : k < s .msi .at + f .size = omega (arith, run .low, run .data-end) in
-      stays i l (sym (control-writable s d (omega arith) ∙ rw (ne-eqb d 2 (λ q. omega (arith, n (omega arith))))))
+      stays i l (sym (control-writable s d (omega arith) ∙ rw (ne-eqb d 2 (λ q. omega (arith, n (omega arith))), ne-eqb d 3 (λ q. omega (arith, n (omega arith))))))
       (sym (low-zero s d (omega arith) ∙ rw (ne-eqb d 4 (omega arith))))
 
-  -- the two bytes behind the data
-  gap-stays : s .msi .at + (f .message + 2) ≤ k → k < s .msi .at + (f .message + 4) → k < s .msi .at + f .size → fixedByte s k x ≡ x
+  -- behind 16-bit data its upper half
+  gap-stays : s .msi .at + (f .message + dataBytes s) ≤ k → k < s .msi .at + (f .message + 4) → k < s .msi .at + f .size → fixedByte s k x ≡ x
   gap-stays i u j =
       let d = k - s .msi .at in
       let r = run .more (omega arith) in
@@ -148,14 +159,14 @@ module _ (s : Shape) (f : Form) (e : f ≡ formOf s) (h : 64 ≤ s .msi .at) whe
 
   -- no step changes byte k
   kept : (k x : ℕ) → s .msi .at ≤ k → k < min (s .msi .at + f .size) 256
-      → (s .msi .at + 2 ≤ k → s .msi .at + 3 ≤ k) → (s .msi .at + 4 ≤ k → s .msi .at + (f .message + 2) ≤ k) → (s .msi .at + (f .message + 4) ≤ k → ⊥)
+      → (s .msi .at + 2 ≤ k → s .msi .at + 4 ≤ k) → (s .msi .at + 4 ≤ k → s .msi .at + (f .message + dataBytes s) ≤ k) → (s .msi .at + (f .message + 4) ≤ k → ⊥)
       → fixedByte s k x ≡ x
   kept k x i j n₂ n₄ n₆ =
       by-test (ltb k (s .msi .at + 4))
       (λ t. control-stays s f e h k x i (ltb-true k (s .msi .at + 4) t) n₂)
       (λ t. gap-stays s f e h k x (n₄ (ltb-false k (s .msi .at + 4) t)) (omega (arith, n₆)) (omega arith))
 
-  pub msi-steps : (l₂ l₃ l₄ l₅ l₆ l₇ : ℕ) → End 2 l₂ → End 3 l₃ → End 4 l₄ → End (f .message + 2) l₅ → End (f .message + 4) l₆ → End (f .size) l₇
+  pub msi-steps : (l₂ l₃ l₄ l₅ l₆ l₇ : ℕ) → End 2 l₂ → End 4 l₃ → End 4 l₄ → End (f .message + dataBytes s) l₅ → End (f .message + 4) l₆ → End (f .size) l₇
       → (c d₁ d₂ d₃ : List ℕ) → Bytes c
       → ((k : ℕ) → byte d₁ k ≡ partFixed s l₂ l₃ c k) → ((k : ℕ) → byte d₂ k ≡ partZero l₄ l₅ d₁ k) → ((k : ℕ) → byte d₃ k ≡ partZero l₆ l₇ d₂ k)
       → (k : ℕ) → byte d₃ k ≡ partFixed s (s .msi .at) (min (s .msi .at + f .size) 256) c k

@@ -1,6 +1,6 @@
 -- The masks of the configuration's bytes, as the code tests for them. Assumes nothing.
 use mathlib.Core.Path.{_≡_, refl, sym, ap, _∙_}
-use mathlib.Core.Bool.{Bool, true, false, not, cond, _&&_, _||_, or-false, true≢false}
+use mathlib.Core.Bool.{Bool, true, false, not, cond, _&&_, _||_, or-false, and-false, true≢false}
 use Prim.Native.Nat.{ℕ, _+_, _-_, _≤_, _<_}
 use native.Mathlib.Omega.{arith}
 use lib.Dec.{ltb, eqb}
@@ -13,7 +13,7 @@ use Rattle.words.proofs.ListLaws.{absent-apart, below-more, below-longer}
 use Rattle.model.specs.declared.Form.{Form}
 use Rattle.model.specs.declared.Shape.{Shape}
 use Rattle.model.specs.Shape.{formOf, forms, msiPresent, msixPresent}
-use Rattle.model.specs.Registers.{headerWritable, headerZero, msiWritable, msiZero, msixWritable, maskBytes, inMask, inPendingRegister, inMsi, inMsix, writable, storedZero}
+use Rattle.model.specs.Registers.{headerWritable, headerZero, dataBytes, msiWritable, msiZero, msixWritable, maskBytes, inMask, inPendingRegister, inMsi, inMsix, writable, storedZero}
 use Rattle.model.proofs.Shapes.FitLaws.{size-small}
 
 -- ---- the four forms
@@ -25,7 +25,7 @@ record Places (f : Form) (masks wide : Bool) : Type 0 where
 
 places : (s : Shape) → Places (formOf s) (s .msi .masks) (s .msi .wide)
 unfolding formOf forms
-places s = go (s .msi .masks) (s .msi .wide)
+places s = let p = go (s .msi .masks) (s .msi .wide) in record { message = p .message; mask = p .mask; pending = p .pending }
   where
     go : (masks wide : Bool) → Places (forms masks wide) masks wide
     go false false = record { message = refl; mask = λ e. refl; pending = λ e. refl }
@@ -41,16 +41,19 @@ pub record Masked (f : Form) : Type 0 where
 
 pub masked : (s : Shape) → s .msi .masks ≡ true → Masked (formOf s)
 unfolding formOf forms
-masked s e = rw e (go (s .msi .wide))
+masked s e =
+    let m = go (s .msi .wide) in
+    let n : (s .msi .extended && false) ≡ false = and-false (s .msi .extended) in
+    rw e (record { behind = m .behind; next = m .next; last = rw n (let z : forms true (s .msi .wide) .size + 0 ≡ forms true (s .msi .wide) .size = omega arith in z ∙ m .last) })
   where
     go : (w : Bool) → Masked (forms true w)
     go false = record { behind = omega arith; next = refl; last = refl }
     go true = record { behind = omega arith; next = refl; last = refl }
 
 -- address, upper address and data have no gap between them
-data-run : (wide : Bool) (k : ℕ) → ((ltb k 8 || (wide && ltb k 12)) || within (cond wide 12 8) 2 k) ≡ ltb k (cond wide 12 8 + 2)
-data-run false k = ap (λ (b : Bool). b || within 8 2 k) (or-false (ltb k 8)) ∙ below-more 8 2 k
-data-run true k = ap (λ (b : Bool). b || within 12 2 k) (below-longer 8 12 k (omega arith)) ∙ below-more 12 2 k
+data-run : (wide : Bool) (n k : ℕ) → ((ltb k 8 || (wide && ltb k 12)) || within (cond wide 12 8) n k) ≡ ltb k (cond wide 12 8 + n)
+data-run false n k = ap (λ (b : Bool). b || within 8 n k) (or-false (ltb k 8)) ∙ below-more 8 n k
+data-run true n k = ap (λ (b : Bool). b || within 12 n k) (below-longer 8 12 k (omega arith)) ∙ below-more 12 n k
 
 -- ---- byte k of the MSI capability
 
@@ -63,22 +66,28 @@ module _ (s : Shape) (k : ℕ) where
   unfolding inPendingRegister
   in-pending h = absent-apart (s .msi .masks) (formOf s .pending) 4 k (places s .pending) h
 
-  pub control-writable : k < 4 → msiWritable s k ≡ cond (eqb k 2) 0x71 0
+  pub control-writable : k < 4 → msiWritable s k ≡ cond (eqb k 2) 0x71 (cond (eqb k 3) (cond (s .msi .extended) 0x04 0) 0)
   unfolding msiWritable firstOf
-  control-writable h = rw (lt-ltb k 4 h)
+  control-writable h = rw (lt-ltb k 4 h) (ap (λ (n : ℕ). cond (eqb k 2) 0x71 n) (both-rows (eqb k 3) (s .msi .extended)))
+    where
+      both-rows : (a b : Bool) → _≡_ {A = ℕ} (cond (a && b) 0x04 0) (cond a (cond b 0x04 0) 0)
+      both-rows true b = refl
+      both-rows false b = refl
 
   pub address-writable : k ≡ 4 → msiWritable s k ≡ 0xfc
   unfolding msiWritable firstOf
   address-writable e = rw e
 
-  pub rest-writable : 5 ≤ k → msiWritable s k ≡ cond (ltb k (formOf s .message + 2)) 0xff (cond (within (formOf s .mask) 4 k) (byte (maskBytes s) (k - formOf s .mask)) 0)
+  pub rest-writable : 5 ≤ k
+      → msiWritable s k ≡ cond (ltb k (formOf s .message + dataBytes s)) 0xff (cond (within (formOf s .mask) 4 k) (byte (maskBytes s) (k - formOf s .mask)) 0)
   unfolding msiWritable firstOf
   rest-writable h =
       let m : ℕ = cond (within (formOf s .mask) 4 k) (byte (maskBytes s) (k - formOf s .mask)) 0 in
-      let e : ((ltb k 8 || (s .msi .wide && ltb k 12)) || within (formOf s .message) 2 k) ≡ ltb k (formOf s .message + 2) =
-      rw (places s .message) (data-run (s .msi .wide) k) in
-      rw (ne-eqb k 2 (omega arith), le-ltb k 4 (omega arith), ne-eqb k 4 (omega arith), in-mask (omega arith))
-      (three-rows (ltb k 8) (s .msi .wide && ltb k 12) (within (formOf s .message) 2 k) 0xff m ∙ ap (λ (b : Bool). cond b 0xff m) e)
+      let n : ℕ = dataBytes s in
+      let e : ((ltb k 8 || (s .msi .wide && ltb k 12)) || within (formOf s .message) n k) ≡ ltb k (formOf s .message + n) =
+      rw (places s .message) (data-run (s .msi .wide) n k) in
+      rw (ne-eqb k 2 (omega arith), ne-eqb k 3 (omega arith), le-ltb k 4 (omega arith), ne-eqb k 4 (omega arith), in-mask (omega arith))
+      (three-rows (ltb k 8) (s .msi .wide && ltb k 12) (within (formOf s .message) n k) 0xff m ∙ ap (λ (b : Bool). cond b 0xff m) e)
 
   pub low-zero : k < 8 → msiZero s k ≡ cond (eqb k 4) 0x03 0
   unfolding msiZero firstOf
@@ -119,21 +128,29 @@ module _ (s : Shape) (i : ℕ) where
 
 -- ---- the ways out of the code: f is the form
 
+pub data-most : (s : Shape) → dataBytes s ≤ 4
+unfolding dataBytes
+data-most s = go (s .msi .extended)
+  where
+    go : (b : Bool) → cond b 4 2 ≤ 4
+    go true = omega arith
+    go false = omega arith
+
 module _ (s : Shape) (f : Form) (e : f ≡ formOf s) (k : ℕ) where
-  pub data-byte : 5 ≤ k → k - 2 < f .message → 0xff ≡ msiWritable s k
+  pub data-byte : 5 ≤ k → k - dataBytes s < f .message → 0xff ≡ msiWritable s k
   data-byte h j =
-      let l : ltb k (formOf s .message + 2) ≡ true = rw (sym e) (lt-ltb k (f .message + 2) (omega arith)) in
+      let l : ltb k (formOf s .message + dataBytes s) ≡ true = rw (sym e) (lt-ltb k (f .message + dataBytes s) (omega (arith, data-most s))) in
       sym (rest-writable s k h ∙ rw l)
 
-  behind : 5 ≤ k → f .message ≤ k - 2 → msiWritable s k ≡ cond (within (f .mask) 4 k) (byte (maskBytes s) (k - f .mask)) 0
+  behind : 5 ≤ k → f .message ≤ k - dataBytes s → msiWritable s k ≡ cond (within (f .mask) 4 k) (byte (maskBytes s) (k - f .mask)) 0
   behind h j =
-      let l : ltb k (formOf s .message + 2) ≡ false = rw (sym e) (le-ltb k (f .message + 2) (omega arith)) in
+      let l : ltb k (formOf s .message + dataBytes s) ≡ false = rw (sym e) (le-ltb k (f .message + dataBytes s) (omega (arith, data-most s))) in
       rest-writable s k h ∙ rw (l, e)
 
-  pub mask-register : 5 ≤ k → f .message ≤ k - 2 → within (f .mask) 4 k ≡ true → byte (maskBytes s) (k - f .mask) ≡ msiWritable s k
+  pub mask-register : 5 ≤ k → f .message ≤ k - dataBytes s → within (f .mask) 4 k ≡ true → byte (maskBytes s) (k - f .mask) ≡ msiWritable s k
   mask-register h j w = sym (behind h j ∙ rw w)
 
-  pub not-writable : 5 ≤ k → f .message ≤ k - 2 → within (f .mask) 4 k ≡ false → 0 ≡ msiWritable s k
+  pub not-writable : 5 ≤ k → f .message ≤ k - dataBytes s → within (f .mask) 4 k ≡ false → 0 ≡ msiWritable s k
   not-writable h j w = sym (behind h j ∙ rw w)
 
   pub shut-mask : 8 ≤ k → within (f .mask) 4 k ≡ true → clear (byte (maskBytes s) (k - f .mask)) 0xff ≡ msiZero s k

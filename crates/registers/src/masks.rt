@@ -1,10 +1,12 @@
 // Of each configuration byte the bits that are writable, and those that are stored as 0.
 ghost use mathlib.Core.Path.{_≡_};
+ghost use mathlib.Core.Bool.{cond};
 ghost use Prim.Native.Nat.{_-_, _^_, _≤_, _<_};
+ghost use lib.Dec.{eqb};
 ghost use Rattle.words.specs.Lists.{within};
 ghost use Rattle.words.specs.Bytes.{byte};
 ghost use Rattle.model.specs.Shape.{formOf};
-ghost use Rattle.model.specs.Registers.{headerWritable, msiWritable, msiZero, maskBytes, writable, storedZero};
+ghost use Rattle.model.specs.Registers.{headerWritable, dataBytes, msiWritable, msiZero, maskBytes, writable, storedZero};
 use model::Form;
 use model::Shape;
 
@@ -38,18 +40,38 @@ fn header_writable(i: usize) -> u8
     if i == 0x3c { 0xff } else { 0 }
 }
 
+// The bytes of MSI's data: with control bit 9 the upper half is one of its registers.
+pub fn data_bytes(s: Shape) -> usize
+    ensures { λ r. ⌜ (r ≡ dataBytes s) × (r ≤ 4) ⌝ }
+{
+    if s.msi.extended { 4 } else { 2 }
+}
+
+// Byte k of MSI's first four: control bits 0 and 6:4, and with bit 9 bit 10.
+fn control_writable(extended: bool, k: usize) -> u8
+    ensures { λ r. ⌜ r ≡ cond (eqb k 2) 0x71 (cond (eqb k 3) (cond extended 0x04 0) 0) ⌝ }
+{
+    if k == 2 {
+        return 0x71;
+    }
+    if k == 3 {
+        return if extended { 0x04 } else { 0 };
+    }
+    0
+}
+
 // Byte k of the MSI capability, whose form is f: control, then address and data without a gap, then the masks.
 fn msi_writable(s: Shape, f: Form, k: usize) -> u8
     requires { ⌜ (s .msi .capable ≤ 5) × (f ≡ formOf s) ⌝ }
     ensures { λ r. ⌜ r ≡ msiWritable s k ⌝ }
 {
     if k < 4 {
-        return if k == 2 { 0x71 } else { 0 };
+        return control_writable(s.msi.extended, k);
     }
     if k == 4 {
         return 0xfc;
     }
-    if k - 2 < f.message {
+    if k - data_bytes(s) < f.message {
         return 0xff;
     }
     if words::ranges::within(f.mask, 4, k) {

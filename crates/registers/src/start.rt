@@ -6,6 +6,7 @@ ghost use Rattle.words.specs.Bytes.{byte};
 ghost use Rattle.model.specs.Shape.{formOf};
 ghost use Rattle.model.specs.Registers.{fixedByte, startedConfig};
 ghost use Rattle.registers.specs.Parts.{partFixed, partZero};
+use crate::masks::data_bytes;
 use crate::masks::stored_zero;
 use crate::masks::writable;
 use model::Form;
@@ -49,16 +50,16 @@ fn zero_part(config: &mut [u8], lo: usize, hi: usize)
     }
 }
 
-// MSI's bytes, where it stands from 40h on: bits of control byte 2, then address and data, then behind two bytes masks and Pending, if any.
+// MSI's bytes, where it stands from 40h on: bits of the control register, then address and data, then masks and Pending, if any.
 fn clear_msi(config: &mut [u8], s: Shape, f: Form)
     requires { ⌜ (length (now config) ≡ 256) × (64 ≤ s .msi .at) × (s .msi .capable ≤ 5) × (f ≡ formOf s) ⌝ }
     ensures { λ r. ⌜ ((k : ℕ) → byte (now (config .exit)) k ≡ partFixed s (s .msi .at) (min (s .msi .at + f .size) 256) (now (config .entry)) k) ⌝ }
 {
-    fix_part(config, s, f, part_end(s.msi.at, 2), part_end(s.msi.at, 3));
+    fix_part(config, s, f, part_end(s.msi.at, 2), part_end(s.msi.at, 4));
     zero_part(
         config,
         part_end(s.msi.at, 4),
-        part_end(s.msi.at, f.message + 2),
+        part_end(s.msi.at, f.message + data_bytes(s)),
     );
     zero_part(
         config,

@@ -1,6 +1,8 @@
 ghost use mathlib.Core.Path.{_≡_};
-ghost use Prim.Native.Nat.{ℕ, _<_, _≤_};
+ghost use mathlib.Core.Bool.{true};
+ghost use Prim.Native.Nat.{ℕ, _+_, _<_, _≤_};
 ghost use lib.ListN.{length};
+ghost use Rattle.words.specs.Bits.{bit};
 ghost use Rattle.words.specs.Writers.{Wrote};
 ghost use Rattle.release.specs.Owed.{msiPackets};
 
@@ -11,7 +13,7 @@ pub fn msi_size(owed: u32, upper: u32) -> usize
     (u32::count_ones(owed) as usize) * tlp::message_size(upper)
 }
 
-// Writes one message for each vector whose bit is set in `owed`, the lowest first. Vector v has the data base + v.
+// Writes one message for each vector whose bit is set in `owed`, the lowest first. Vector v has the data base + v, which is a word.
 pub fn msi_send(
     out: &mut [u8],
     requester: u16,
@@ -20,7 +22,7 @@ pub fn msi_send(
     base: u32,
     owed: u32,
 ) -> usize
-    requires { ⌜ (base < 65536) × (length (msiPackets requester upper address base owed) ≤ length (now out)) ⌝ }
+    requires { ⌜ ((v : ℕ) → bit owed v ≡ true → base + v < 4294967296) × (length (msiPackets requester upper address base owed) ≤ length (now out)) ⌝ }
     ensures { λ r. ⌜ Wrote (msiPackets requester upper address base owed) (now (out .entry)) r (now (out .exit)) ⌝ }
 {
     let mut left = owed;

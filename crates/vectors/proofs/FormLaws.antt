@@ -15,7 +15,7 @@ mask-fits true true e = omega arith
 
 pub mask-inside : (s : Shape) → s .msi .masks ≡ true → formOf s .mask + 4 ≤ formOf s .size
 unfolding formOf
-mask-inside s e = mask-fits (s .msi .masks) (s .msi .wide) e
+mask-inside s e = omega (arith, mask-fits (s .msi .masks) (s .msi .wide) e)
 
 -- the data register
 message-fits : (masks wide : Bool) → forms masks wide .message + 2 ≤ forms masks wide .size
@@ -27,7 +27,7 @@ message-fits true true = omega arith
 
 pub message-inside : (s : Shape) → formOf s .message + 2 ≤ formOf s .size
 unfolding formOf
-message-inside s = message-fits (s .msi .masks) (s .msi .wide)
+message-inside s = omega (arith, message-fits (s .msi .masks) (s .msi .wide))
 
 -- the upper address of the 64-bit forms
 upper-fits : (masks wide : Bool) → wide ≡ true → 12 ≤ forms masks wide .size
@@ -38,4 +38,4 @@ upper-fits true true e = omega arith
 
 pub upper-inside : (s : Shape) → s .msi .wide ≡ true → 12 ≤ formOf s .size
 unfolding formOf
-upper-inside s e = upper-fits (s .msi .masks) (s .msi .wide) e
+upper-inside s e = omega (arith, upper-fits (s .msi .masks) (s .msi .wide) e)

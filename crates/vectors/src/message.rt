@@ -1,18 +1,20 @@
 // The message of a vector.
 ghost use mathlib.Core.Path.{_≡_};
+ghost use mathlib.Core.Bool.{true};
 ghost use mathlib.Core.List.{List};
 ghost use Prim.Native.Nat.{ℕ, _+_, _*_, _/_, _<_, _≤_};
 ghost use lib.ListN.{length};
 ghost use Rattle.words.specs.Writers.{Wrote};
 ghost use Rattle.model.specs.Shape.{formOf, tableBytes};
-ghost use Rattle.model.specs.Vectors.{vectorCount};
-ghost use Rattle.model.specs.Packets.{message, messageSize, messageOf, entryMessage, msiUpper, msiData};
+ghost use Rattle.model.specs.Vectors.{enabled, granted};
+ghost use Rattle.model.specs.Packets.{message, messageSize, messageOf, entryMessage, msiUpper, dataExtended, msiData};
 ghost use Rattle.model.specs.Fit.{FitShape};
 ghost use Rattle.vectors.specs.Given.{regs, Profiled};
 ghost use Rattle.vectors.specs.Messages.{msiBase};
 ghost use Rattle.vectors.specs.Entries.{messageIn};
 use crate::entry::entry_of;
 use crate::granted::granted;
+use crate::mode::msi_control_bit;
 use model::Form;
 use model::Mode;
 use model::Profile;
@@ -37,18 +39,33 @@ fn msi_upper(c: &[u8; 256], s: Shape) -> u32
     words::get::word32(c, s.msi.at + 8)
 }
 
-// The 16-bit data register, where the form has it.
-fn msi_data(c: &[u8; 256], s: Shape, f: Form) -> u32
-    requires { ⌜ FitShape s × (f ≡ formOf s) ⌝ }
-    ensures { λ r. ⌜ ((t : List ℕ) → r ≡ msiData s (regs (now (c .entry)) t)) × (r < 65536) ⌝ }
+// Control bits 9 and 10 are both set.
+fn data_extended(c: &[u8; 256], s: Shape) -> bool
+    requires { ⌜ FitShape s ⌝ }
+    ensures { λ r. ⌜ ((t : List ℕ) → r ≡ dataExtended s (regs (now (c .entry)) t)) ⌝ }
 {
-    words::get::word16(c, s.msi.at + f.message) as u32
+    if !s.msi.extended {
+        return false;
+    }
+    msi_control_bit(c, s, 10)
 }
 
-// The message of MSI vector 0: the low bits of the data register, which a vector replaces, are 0.
+// The data, where the form has it: 16 bits, or all 32.
+fn msi_data(c: &[u8; 256], s: Shape, f: Form) -> u32
+    requires { ⌜ FitShape s × (f ≡ formOf s) ⌝ }
+    ensures { λ r. ⌜ ((t : List ℕ) → r ≡ msiData s (regs (now (c .entry)) t)) ⌝ }
+{
+    let at = s.msi.at + f.message;
+    if data_extended(c, s) {
+        return words::get::word32(c, at);
+    }
+    words::get::word16(c, at) as u32
+}
+
+// The message of MSI vector 0: the low bits of the data, which a vector replaces, are 0. Each granted vector can be added.
 pub fn msi_base(c: &[u8; 256], s: Shape, f: Form) -> Message
     requires { ⌜ FitShape s × (f ≡ formOf s) ⌝ }
-    ensures { λ r. ⌜ ((t : List ℕ) → r ≡ msiBase s (regs (now (c .entry)) t)) × (r .value < 65536) ⌝ }
+    ensures { λ r. ⌜ ((t : List ℕ) → (r ≡ msiBase s (regs (now (c .entry)) t)) × (r .value + granted s (regs (now (c .entry)) t) ≤ 4294967296)) ⌝ }
 {
     let g = granted(c, s);
     let data = msi_data(c, s, f);
@@ -61,8 +78,9 @@ pub fn msi_base(c: &[u8; 256], s: Shape, f: Form) -> Message
     }
 }
 
+// Of a vector that is granted.
 pub fn msi_message(c: &[u8; 256], s: Shape, f: Form, v: Vector) -> Message
-    requires { ⌜ FitShape s × (f ≡ formOf s) ⌝ }
+    requires { ⌜ FitShape s × (f ≡ formOf s) × ((t : List ℕ) → v .0 < granted s (regs (now c) t)) ⌝ }
     ensures { λ r. ⌜ ((requester : ℕ) (t : List ℕ) → message requester (r .upper) (r .address) (r .value) ≡ messageOf Mode.Msi s requester (regs (now (c .entry)) t) (v .0)) ⌝ }
 {
     let base = msi_base(c, s, f);
@@ -93,9 +111,9 @@ pub fn msix_message(table: &[u8], v: Vector) -> Message
     entry_message(entry_of(table, v.0 as usize))
 }
 
-// Of a vector of the mechanism in force.
+// Of an enabled vector of the mechanism in force.
 pub fn vector_message(c: &[u8; 256], k: Profile, table: &[u8], v: Vector) -> Message
-    requires { ⌜ Profiled (now c) k × (length (now table) ≡ tableBytes (k .shape)) × (v .0 < vectorCount (k .mode) (k .shape)) ⌝ }
+    requires { ⌜ Profiled (now c) k × (length (now table) ≡ tableBytes (k .shape)) × (enabled (k .mode) (k .shape) (regs (now c) (now table)) (v .0) ≡ true) ⌝ }
     ensures { λ r. ⌜ ((requester : ℕ)
         → message requester (r .upper) (r .address) (r .value) ≡ messageOf (k .mode) (k .shape) requester (regs (now (c .entry)) (now (table .entry))) (v .0)) ⌝ }
 {

@@ -215,7 +215,7 @@ fn bar_write(state: &Second, vectors: usize) -> (Calls, Calls) {
     (proved, second)
 }
 
-fn event(state: &Second, number: u64) -> (Calls, Calls) {
+pub fn event(state: &Second, number: u64) -> (Calls, Calls) {
     let mut second = state.clone();
     let proved = repeat(second.proved(), move |p, _| {
         let (mut answer, mut count) = (0, 0);

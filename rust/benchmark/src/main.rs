@@ -4,6 +4,7 @@
 //! Prints two Markdown tables. `--rounds R` sets the number of rounds.
 
 mod cases;
+mod extended;
 mod floor;
 mod log;
 mod measure;
@@ -135,6 +136,9 @@ fn main() -> ExitCode {
         for case in &mut cases::cases(vectors) {
             print_row(case, rounds);
         }
+    }
+    for case in &mut extended::cases() {
+        print_row(case, rounds);
     }
     for case in &mut switch::cases() {
         print_row(case, rounds);

@@ -1,6 +1,7 @@
 //! Directed trials: the edges of each rule.
 
 mod damage;
+mod extended;
 mod interface;
 mod interrupts;
 mod log;
@@ -33,6 +34,7 @@ pub fn run(runner: &mut Runner<'_>) -> Run {
 fn run_cards(runner: &mut Runner<'_>) -> Run {
     starts::run(runner)?;
     interrupts::run(runner)?;
+    extended::run(runner)?;
     damage::run(runner)?;
     interface::run(runner)
 }

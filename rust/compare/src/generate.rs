@@ -1,13 +1,14 @@
 //! Random trials. The next steps are chosen by the state that the second model
 //! is in, so that they reach something.
 
+mod foreign;
 mod log;
 mod query;
 mod switch;
 
 use crate::call::{Call, Damage, Given, Image, Room, Step, Subject};
 use crate::given::{arbitrary, spoil, valid};
-use crate::layout::{pending_bytes, table_bytes, Layout};
+use crate::layout::{pending_bytes, table_bytes, Layout, EXTENDED_ENABLE};
 use crate::pair::Pair;
 use crate::random::Random;
 use crate::second;
@@ -281,7 +282,7 @@ impl CardGenerator {
 
     /// Restores an image of another card, mostly over buffers that fit.
     fn foreign_steps(&mut self, layout: &Layout) -> Vec<Step> {
-        let mut image = foreign_image(&mut self.random);
+        let mut image = foreign::image(&mut self.random);
         let mut steps = Vec::new();
         if !self.random.once_in(4) {
             steps.extend(fitting(&image));
@@ -443,7 +444,9 @@ impl CardGenerator {
     /// Switches MSI or MSI-X, if the card has it.
     fn switch(&mut self, layout: &Layout) -> Call {
         let random = &mut self.random;
-        let msi = layout.msi.map(|msi| (msi.at + 2, random.below(0x80)));
+        let extended = random.pick(&[0, EXTENDED_ENABLE]);
+        let on = random.below(0x80) as u16 | extended;
+        let msi = layout.msi.map(|msi| (msi.at + 2, on));
         let control = random.pick(&[0x8000, 0x8000, 0x8000, 0xC000, 0x4000, 0, 0]);
         let msix = layout.msix.map(|msix| (msix.at + 2, control));
         let wanted = match random.once_in(2) {
@@ -454,7 +457,7 @@ impl CardGenerator {
             Some((at, value)) => Call::ConfigWrite {
                 offset: at as u64,
                 width: 2,
-                value: value as u32,
+                value: u32::from(value),
             },
             None => Call::Line(1),
         }
@@ -469,7 +472,7 @@ impl CardGenerator {
             (1, _, _) => 0x04 + random.below(4),
             (2, _, _) => 0x3C,
             (3..=4, Some(msi), _) if msi.has_masks() => msi.mask(),
-            (5, Some(msi), _) => msi.data(),
+            (5, Some(msi), _) => msi.data() + random.pick(&[0, 0, 2]),
             (_, Some(msi), None) => msi.at + random.below(28),
             (_, None, Some(msix)) => msix.at + random.below(12),
             (_, Some(msi), Some(msix)) => {
@@ -590,41 +593,4 @@ fn fitting(image: &[u8]) -> Vec<Step> {
         Step::Length(Part::Table, table_bytes(vectors)),
         Step::Length(Part::Pending, pending_bytes(vectors)),
     ]
-}
-
-/// The image of another card that was started and used a little.
-fn foreign_image(random: &mut Random) -> Vec<u8> {
-    let given = valid(random);
-    let layout = Layout::of_config(&given.config);
-    let mut world = World {
-        card: vec![0; CARD_BYTES],
-        table: vec![0; table_bytes(layout.vectors())],
-        pending: vec![0; pending_bytes(layout.vectors())],
-        out: vec![0; ROOM],
-        ..World::default()
-    };
-    let mut calls = vec![Call::Start(given)];
-    if let Some(msi) = layout.msi {
-        calls.push(Call::ConfigWrite {
-            offset: msi.at as u64 + 2,
-            width: 2,
-            value: 1 | (random.below(8) as u32) << 4,
-        });
-    }
-    if let (Some(msix), true) = (layout.msix, random.once_in(2)) {
-        calls.push(Call::ConfigWrite {
-            offset: msix.at as u64 + 2,
-            width: 2,
-            value: 0x8000,
-        });
-    }
-    calls.extend((0..4).map(|_| Call::Event(random.below(4) as u64)));
-    calls.push(Call::Line(1));
-    calls.push(Call::Save(0));
-    let mut count = 0;
-    for call in &calls {
-        count = second::apply(&mut world, call, &[]).count.unwrap_or(0);
-    }
-    world.out.truncate(count);
-    world.out
 }

@@ -18,10 +18,12 @@ fn put(config: &mut [u8], at: usize, bytes: &[u8]) {
 
 /// The bytes of the MSI structure with this control word.
 pub fn msi_bytes(control: u16) -> usize {
-    match control & 0x180 {
+    match control & 0x380 {
         0x000 => 10,
         0x080 => 14,
-        0x100 => 20,
+        0x200 => 12,
+        0x280 => 16,
+        0x100 | 0x300 => 20,
         _ => 24,
     }
 }
@@ -119,6 +121,7 @@ pub fn valid(random: &mut Random) -> Given {
 
 /// Writes a list of random capabilities at random places.
 fn put_random_list(random: &mut Random, given: &mut Given) {
+    // Bits 9 and 10 are 0 and 1 equally often, as are those without a meaning.
     let mut control = random.number() as u16 & 0xFFF1 | (random.below(6) << 1) as u16;
     control = control & !0x180 | (random.below(4) << 7) as u16;
     let mut wanted: Vec<(u8, usize)> = Vec::new();

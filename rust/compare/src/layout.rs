@@ -10,6 +10,10 @@ pub struct Place {
     pub offset: u32,
 }
 
+/// MSI control bits 9 and 10, Extended Message Data Capable and Enable.
+pub const EXTENDED_CAPABLE: u16 = 1 << 9;
+pub const EXTENDED_ENABLE: u16 = 1 << 10;
+
 /// An MSI capability.
 #[derive(Clone, Copy, Debug, PartialEq, Eq)]
 pub struct Msi {
@@ -26,6 +30,16 @@ impl Msi {
     /// Whether the form has masks.
     pub fn has_masks(&self) -> bool {
         self.control & 0x100 != 0
+    }
+
+    /// Extended Message Data Capable, control bit 9.
+    pub fn extended_capable(&self) -> bool {
+        self.control & EXTENDED_CAPABLE != 0
+    }
+
+    /// Extended Message Data Enable, control bit 10.
+    pub fn extended_enable(&self) -> bool {
+        self.control & EXTENDED_ENABLE != 0
     }
 
     /// The place of the data register.

@@ -41,7 +41,7 @@ struct Options {
 /// Reads the command line.
 fn options() -> Option<Options> {
     let mut options = Options {
-        calls: 400_000,
+        calls: 500_000,
         seed: 1,
         directed: true,
         trial: None,

@@ -29,6 +29,7 @@ pub struct Made<'a> {
     pub outcome: Outcome,
     pub out: &'a [u8],
     pub card: &'a [u8],
+    pub card_before: Vec<u8>,
     /// The flags of the card before the call, besides line and wire.
     pub other_flags: u8,
     pub switch: &'a [u8],
@@ -86,7 +87,8 @@ impl<'a> Pair<'a> {
     fn call<'b>(&'b mut self, call: &'b Call, room: Room) -> Result<Made<'b>, Difference> {
         let image = self.image_of(call);
         let length = self.output_length(call, room, &image);
-        let other_flags = other_flags(&self.second.card);
+        let card_before = self.second.card.clone();
+        let other_flags = other_flags(&card_before);
         let switch_before = self.second.switch.clone();
         let player_before = self.second.player.clone();
         self.tested.lend_output(length);
@@ -105,6 +107,7 @@ impl<'a> Pair<'a> {
             outcome,
             out: &self.second.out,
             card: &self.second.card,
+            card_before,
             other_flags,
             switch: &self.second.switch,
             switch_before,

@@ -1,6 +1,7 @@
 //! How often each kind of call, refusal and answer was met.
 
 mod card;
+mod extended;
 mod log;
 mod query;
 mod switch;

@@ -63,35 +63,42 @@ pub struct Form {
     pub data: usize,
     /// Offsets of the Mask and the Pending register.
     pub masks: Option<(usize, usize)>,
-    pub bytes: usize,
+    bytes: usize,
+    /// The length with Extended Message Data Capable.
+    extended_bytes: usize,
 }
 
 // 01: the table below "The four forms of the MSI capability place fields so",
 // and "Address is at 04h, upper address at 08h in the 64-bit forms."
+// 02: "With bit 9 the unmasked forms hold 12 and 16 bytes"
 static FORMS: [Form; 4] = [
     Form {
         upper: None,
         data: 0x08,
         masks: None,
         bytes: 10,
+        extended_bytes: 12,
     },
     Form {
         upper: Some(0x08),
         data: 0x0C,
         masks: None,
         bytes: 14,
+        extended_bytes: 16,
     },
     Form {
         upper: None,
         data: 0x08,
         masks: Some((0x0C, 0x10)),
         bytes: 20,
+        extended_bytes: 20,
     },
     Form {
         upper: Some(0x08),
         data: 0x0C,
         masks: Some((0x10, 0x14)),
         bytes: 24,
+        extended_bytes: 24,
     },
 ];
 
@@ -102,6 +109,8 @@ pub struct Msi {
     /// Multiple Message Capable, control bits 3:1.
     pub capable: u32,
     pub form: &'static Form,
+    /// Extended Message Data Capable, control bit 9.
+    pub extended_capable: bool,
 }
 
 impl Msi {
@@ -114,6 +123,17 @@ impl Msi {
             at,
             capable: u32::from(control >> 1 & 7),
             form,
+            // 02: "MSI control bit 9, Extended Message Data Capable"
+            extended_capable: control & 1 << 9 != 0,
+        }
+    }
+
+    /// The length of the structure.
+    pub fn bytes(&self) -> usize {
+        if self.extended_capable {
+            self.form.extended_bytes
+        } else {
+            self.form.bytes
         }
     }
 

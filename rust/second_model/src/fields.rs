@@ -32,6 +32,11 @@ pub fn msi_enable(config: &[u8; 256], msi: &Msi) -> u32 {
     u32::from(control(config, msi.at) >> 4 & 7)
 }
 
+/// MSI control bit 10, Extended Message Data Enable.
+pub fn extended_enabled(config: &[u8; 256], msi: &Msi) -> bool {
+    control(config, msi.at) & 1 << 10 != 0
+}
+
 /// MSI-X control bit 15.
 pub fn msix_enabled(config: &[u8; 256], msix: &MsiX) -> bool {
     control(config, msix.at) & 1 << 15 != 0

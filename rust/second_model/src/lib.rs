@@ -4,9 +4,11 @@
 //! marked `01:`. Doubts about the wording are listed in `READINGS.md`. A rule
 //! that the C interface adds is marked `C interface:`.
 //!
-//! [`log`] is a model of request 1 of document 02, a player of recorded calls,
-//! and [`switch`] of request 4, a switch between cards and host; a sentence of
-//! that document is marked `02:`. [`query`] reads lengths and packets for a host.
+//! The card is that of document 01 with request 6 of document 02, 32-bit MSI
+//! data. [`log`] is a model of request 1 of document 02, a player of recorded
+//! calls, and [`switch`] of request 4, a switch between cards and host; a
+//! sentence of that document is marked `02:`. [`query`] reads lengths and
+//! packets for a host.
 //!
 //! Numbers that a caller hands in may be wider than their fields, and each rule
 //! is applied to the whole number.

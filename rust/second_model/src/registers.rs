@@ -42,6 +42,12 @@ fn add_msi_writable(bits: &mut ConfigBits, msi: &Msi) {
         add_bits(bits, msi.at + upper, u32::MAX);
     }
     add_bits(bits, msi.at + msi.form.data, 0xFFFF);
+    // 02: "Then bit 10, which enables it, and the 16 bits after the data
+    // register are writable."
+    if msi.extended_capable {
+        add_bits(bits, msi.at, 1 << (16 + 10));
+        add_bits(bits, msi.at + msi.form.data, 0xFFFF_0000);
+    }
     if let Some((mask, _)) = msi.form.masks {
         add_bits(bits, msi.at + mask, msi.capable_bits());
     }

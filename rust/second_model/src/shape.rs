@@ -98,7 +98,7 @@ fn structures_accepted(list: &List, msi: Option<&Msi>, msix_at: Option<usize>) -
     if msi.is_some_and(|msi| msi.capable > 5) {
         return false;
     }
-    let msi_place = msi.map(|msi| (msi.at, msi.at + msi.form.bytes));
+    let msi_place = msi.map(|msi| (msi.at, msi.at + msi.bytes()));
     let msix_place = msix_at.map(|at| (at, at + MSIX_BYTES));
     // 01, no. 13: "overlaps the other one"
     if let (Some(a), Some(b)) = (msi_place, msix_place) {

@@ -3,7 +3,8 @@
 
 use crate::capability::{bits_below, word_at, Msi, MsiX};
 use crate::fields::{
-    bus_mastering, function_mask, interrupt_disable, msi_enable, msi_enabled, msix_enabled,
+    bus_mastering, extended_enabled, function_mask, interrupt_disable, msi_enable, msi_enabled,
+    msix_enabled,
 };
 use crate::packets::Message;
 use crate::shape::Shape;
@@ -64,21 +65,32 @@ pub fn msi_open(config: &[u8; 256], msi: &Msi, vector: u32) -> bool {
     vector < granted(config, msi) && !masked && bus_mastering(config)
 }
 
+/// The data that MSI messages carry, before the vector replaces low bits.
+fn msi_data(config: &[u8; 256], msi: &Msi) -> u32 {
+    let word = word_at(config, msi.at + msi.form.data);
+    // 02: "While both bits are set, the message carries all 32 bits, ...
+    // else the upper half is 0."
+    if msi.extended_capable && extended_enabled(config, msi) {
+        word
+    } else {
+        word & 0xFFFF
+    }
+}
+
 /// The message of MSI vector `vector`.
 pub fn msi_message(config: &[u8; 256], msi: &Msi, vector: u32) -> Message {
     let upper = match msi.form.upper {
         Some(upper) => word_at(config, msi.at + upper),
         None => 0,
     };
-    let at = msi.at + msi.form.data;
-    let data = u32::from(u16::from_le_bytes([config[at], config[at + 1]]));
     // 01: "MSI data: the 16-bit register with its low log2(granted) bits
-    // replaced by v, upper half 0."
+    // replaced by v, upper half 0." 02: "low bits still replaced by the
+    // vector"
     let low = bits_below(log_granted(config, msi));
     Message {
         upper,
         address: word_at(config, msi.at + 0x04),
-        data: data & !low | vector & low,
+        data: msi_data(config, msi) & !low | vector & low,
     }
 }
 

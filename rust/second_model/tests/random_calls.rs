@@ -73,7 +73,7 @@ fn random_list(random: &Random, config: &mut [u8; 256], places: &mut Places) -> 
         match kind {
             0x05 => {
                 places.msi = Some(at);
-                let control = random.below(6) << 1 | random.below(8) << 4 | random.below(4) << 7;
+                let control = random.below(6) << 1 | random.below(8) << 4 | random.below(16) << 7;
                 config[at + 2..at + 4].copy_from_slice(&(control as u16).to_le_bytes());
             }
             0x11 => {

@@ -16,9 +16,9 @@ use Rattle.model.specs.Calls.{Operation, Outcome, operate, lentOutput}
 use Rattle.model.specs.World.{worldOf, cardOf}
 use Rattle.model.specs.Answers.{sameAnswer}
 use Rattle.model.specs.Play.{Step, lends, does, Played, fresh, right, unplayed, played, playedAll, passes, allPass}
-use Rattle.model.specs.Cases.{starredCases, limitCases, benchCases}
+use Rattle.model.specs.Cases.{starredCases, limitCases, dataCases, benchCases}
 use Rattle.model.proofs.Calls.AnswerLaws.{same-equal}
-use Rattle.model.proofs.Starred.{starred, limits}
+use Rattle.model.proofs.Starred.{starred, limits, data32}
 
 -- ---- a call
 
@@ -97,4 +97,6 @@ case-passes f i (suc n) e k h j =
     (λ q. case-passes f (suc i) n (b .1) k (omega (arith, differs i k (eqb-false i k q) h)) (omega arith))
 
 pub bench-pass : allPass benchCases ≡ true
-bench-pass = all-append starredCases limitCases (of-T (allPass starredCases) starred) (of-T (allPass limitCases) limits)
+bench-pass =
+    all-append starredCases (limitCases ++ dataCases) (of-T (allPass starredCases) starred)
+    (all-append limitCases dataCases (of-T (allPass limitCases) limits) (of-T (allPass dataCases) data32))

@@ -18,7 +18,7 @@ use Rattle.model.specs.declared.Form.{Form}
 use Rattle.model.specs.declared.Shape.{Shape}
 use Rattle.model.specs.Shape.{formOf, forms}
 use Rattle.model.specs.Registers.{writable, storedZero, fixedByte, headerWritable, headerZero, entryWritable, entryZero, written, startedConfig}
-use Rattle.model.specs.Registers.{msiWritable, msiZero, maskBytes, inMask, inPendingRegister, inMsi, inMsix, msixWritable}
+use Rattle.model.specs.Registers.{dataBytes, msiWritable, msiZero, maskBytes, inMask, inPendingRegister, inMsi, inMsix, msixWritable}
 use Rattle.model.specs.Sound.{zeroBits}
 use Rattle.model.proofs.Registers.WriteLaws.{length-written, byte-written}
 use Rattle.model.proofs.Registers.FixedLaws.{length-started, byte-started}
@@ -52,12 +52,12 @@ clear-apart a x k = ap (λ (b : Bool). bit a k && b) (bit-clear a x k) ∙ go (b
 
 record Masked (f : Form) : Type 0 where
   behind : 12 ≤ f .mask
-  free : f .message + 2 ≤ f .mask
+  free : f .message + 4 ≤ f .mask
   next : f .pending ≡ f .mask + 4
 
 masked-form : (s : Shape) → s .msi .masks ≡ true → Masked (formOf s)
 unfolding formOf forms
-masked-form s e = rw e (go (s .msi .wide))
+masked-form s e = let f = go (s .msi .wide) in rw e (record { behind = f .behind; free = f .free; next = f .next })
   where
     go : (w : Bool) → Masked (forms true w)
     go false = record { behind = omega arith; free = omega arith; next = refl }
@@ -68,17 +68,22 @@ and-no-right true b e = e
 and-no-right false b e = refl
 
 -- from byte 12 on, and behind the data register: only the masks are writable
-behind-data : (s : Shape) (k : ℕ) → 12 ≤ k → formOf s .message + 2 ≤ k → msiWritable s k ≡ cond (inMask s k) (byte (maskBytes s) (k - formOf s .mask)) 0
-unfolding msiWritable firstOf
+behind-data : (s : Shape) (k : ℕ) → 12 ≤ k → formOf s .message + 4 ≤ k → msiWritable s k ≡ cond (inMask s k) (byte (maskBytes s) (k - formOf s .mask)) 0
+unfolding msiWritable dataBytes firstOf
 behind-data s k h j =
     rw (
       ne-eqb k 2 (omega arith),
+      ne-eqb k 3 (omega arith),
       le-ltb k 4 (omega arith),
       ne-eqb k 4 (omega arith),
       le-ltb k 8 (omega arith),
       and-no-right (s .msi .wide) (ltb k 12) (le-ltb k 12 h),
-      not-within (formOf s .message) 2 k j,
+      not-within (formOf s .message) (cond (s .msi .extended) 4 2) k (data-end (s .msi .extended)),
     )
+  where
+    data-end : (e : Bool) → formOf s .message + cond e 4 2 ≤ k
+    data-end true = j
+    data-end false = omega arith
 
 in-mask : (s : Shape) (k : ℕ) → inMask s k ≡ true → Disjoint (msiWritable s k) (msiZero s k)
 unfolding inMask msiZero firstOf

@@ -1,9 +1,9 @@
--- The walk looks only at the pointers of the capabilities that it lists, and each stands at 40h or above. Assumes nothing.
+-- The walk looks only at the pointers of the capabilities that it lists, and each stands at a multiple of 4, at 40h or above. Assumes nothing.
 use mathlib.Core.Path.{_≡_, refl, sym, ap, _∙_}
 use mathlib.Core.Bool.{Bool, true, false, not, true≢false}
 use mathlib.Core.Option.{Option, none, some}
 use mathlib.Core.List.{List, [], _∷_}
-use Prim.Native.Nat.{ℕ, zero, suc, _+_, _≤_}
+use Prim.Native.Nat.{ℕ, zero, suc, _+_, _%_, _≤_}
 use native.Mathlib.Omega.{arith}
 use lib.Dec.{ltb, eqb}
 use borrow.Author.Tests.{ltb-false, ne-eqb}
@@ -34,30 +34,38 @@ walk-same c d (suc n) p h b =
     step-same (λ a. byte d (a + 1) ≡ byte c (a + 1)) a (eqb a 0) (ltb a 64) (walk c n (byte c (a + 1))) (walk d n (byte d (a + 1)))
     (λ e hs k. ap (walk d n) e ∙ walk-same c d n (byte c (a + 1)) hs k) h b
 
--- ---- 40h or above
+-- ---- what is true of every pointer to 40h or above is true of every listed place
 
-step-high : (a : ℕ) (ends low : Bool) (r : Option (List ℕ)) → ltb a 64 ≡ low → Holds (λ x. 64 ≤ x) (listed r)
-    → Holds (λ x. 64 ≤ x) (listed (walkStep ends low a r))
-unfolding walkStep listed
-step-high a true low r e h = holds-nil (λ x. 64 ≤ x)
-step-high a false true r e h = holds-nil (λ x. 64 ≤ x)
-step-high a false false none e h = holds-nil (λ x. 64 ≤ x)
-step-high a false false (some l) e h = holds-cons (λ x. 64 ≤ x) a l (ltb-false a 64 e) h
+module _ (P : ℕ → Type 0) (each : (p : ℕ) → ltb (pointer p) 64 ≡ false → P (pointer p)) where
+  step-all : (p : ℕ) (ends low : Bool) (r : Option (List ℕ)) → ltb (pointer p) 64 ≡ low → Holds P (listed r) → Holds P (listed (walkStep ends low (pointer p) r))
+  unfolding walkStep listed
+  step-all p true low r e h = holds-nil P
+  step-all p false true r e h = holds-nil P
+  step-all p false false none e h = holds-nil P
+  step-all p false false (some l) e h = holds-cons P (pointer p) l (each p e) h
 
-none-high : Holds (λ x. 64 ≤ x) (listed none)
-unfolding listed
-none-high = holds-nil (λ x. 64 ≤ x)
+  none-all : Holds P (listed none)
+  unfolding listed
+  none-all = holds-nil P
 
-walk-high : (c : List ℕ) (n p : ℕ) → Holds (λ x. 64 ≤ x) (listed (walk c n p))
-unfolding walk
-walk-high c zero p = step-high (pointer p) (eqb (pointer p) 0) (ltb (pointer p) 64) none refl none-high
-walk-high c (suc n) p =
-    step-high (pointer p) (eqb (pointer p) 0) (ltb (pointer p) 64) (walk c n (byte c (pointer p + 1))) refl (walk-high c n (byte c (pointer p + 1)))
+  walk-all : (c : List ℕ) (n p : ℕ) → Holds P (listed (walk c n p))
+  unfolding walk
+  walk-all c zero p = step-all p (eqb (pointer p) 0) (ltb (pointer p) 64) none refl none-all
+  walk-all c (suc n) p =
+      step-all p (eqb (pointer p) 0) (ltb (pointer p) 64) (walk c n (byte c (pointer p + 1))) refl (walk-all c n (byte c (pointer p + 1)))
+
+  pub capabilities-all : (c : List ℕ) → Holds P (listed (capabilities c))
+  unfolding capabilities listed
+  capabilities-all c =
+      cond-elim (λ (r : Option (List ℕ)). Holds P (listed r)) (bit (byte c 6) 4) (λ _. walk-all c 48 (byte c 0x34)) (λ _. holds-nil P)
 
 pub capabilities-high : (c : List ℕ) → Holds (λ x. 64 ≤ x) (listed (capabilities c))
-unfolding capabilities listed
-capabilities-high c =
-    cond-elim (λ (r : Option (List ℕ)). Holds (λ x. 64 ≤ x) (listed r)) (bit (byte c 6) 4) (λ _. walk-high c 48 (byte c 0x34)) (λ _. holds-nil (λ x. 64 ≤ x))
+capabilities-high = capabilities-all (λ x. 64 ≤ x) (λ p e. ltb-false (pointer p) 64 e)
+
+-- a pointer has no low two bits
+pub capabilities-aligned : (c : List ℕ) → Holds (λ x. x % 4 ≡ 0) (listed (capabilities c))
+unfolding pointer
+capabilities-aligned = capabilities-all (λ x. x % 4 ≡ 0) (λ p e. omega arith)
 
 -- ---- the first capability with an ID
 

@@ -1,6 +1,6 @@
 -- A start that accepts, and so a sound card, has structures inside the 256 bytes, at most 2,048 vectors and buffers that fit. Assumes nothing.
 use mathlib.Core.Path.{_≡_, refl}
-use mathlib.Core.Bool.{Bool, true, false, not}
+use mathlib.Core.Bool.{Bool, true, false, not, cond, _&&_}
 use mathlib.Core.List.{List}
 use Prim.Native.Nat.{ℕ, _+_, _*_, _/_, _≤_}
 use native.Mathlib.Omega.{arith}
@@ -23,13 +23,17 @@ use Rattle.model.proofs.Sound.StartLaws.{few-vectors}
 -- the longest form has 24 bytes
 pub size-small : (s : Shape) → formOf s .size ≤ 24
 unfolding formOf forms
-size-small s = go (s .msi .masks) (s .msi .wide)
+size-small s = go (s .msi .extended) (s .msi .masks) (s .msi .wide)
   where
-    go : (m w : Bool) → forms m w .size ≤ 24
-    go false false = omega arith
-    go false true = omega arith
-    go true false = omega arith
-    go true true = omega arith
+    go : (e m w : Bool) → forms m w .size + cond (e && not m) 2 0 ≤ 24
+    go true false false = omega arith
+    go true false true = omega arith
+    go true true false = omega arith
+    go true true true = omega arith
+    go false false false = omega arith
+    go false false true = omega arith
+    go false true false = omega arith
+    go false true true = omega arith
 
 -- without MSI its shape is all 0
 msi-absent : (c : List ℕ) → msiPresent (shapeOf c) ≡ false → shapeOf c .msi .capable ≡ 0

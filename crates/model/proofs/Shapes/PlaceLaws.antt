@@ -65,7 +65,7 @@ high i h = le-ltb i 64 h
 
 pub size-large : (s : Shape) → 10 ≤ formOf s .size
 unfolding formOf forms
-size-large s = go (s .msi .masks) (s .msi .wide)
+size-large s = let l : 10 ≤ forms (s .msi .masks) (s .msi .wide) .size = go (s .msi .masks) (s .msi .wide) in omega arith
   where
     go : (m w : Bool) → 10 ≤ forms m w .size
     go false false = omega arith

@@ -114,8 +114,13 @@ module _ (c d : List ℕ) (whole : broken (capabilities c) ≡ false) (places : 
         at = a;
         capable = field-same (byte d (a + 2)) (byte c (a + 2)) 1 3 (λ k l. msi-bit a (a + 2) 2 (1 + k) 0x71 o h refl (omega arith) refl refl (free k l)) i;
         wide = msi-bit a (a + 2 + 0) 2 7 0x71 o h (omega arith) (omega arith) refl refl refl i;
-        masks = msi-bit a (a + 2 + 1) 3 0 0 o h (omega arith) (omega arith) refl refl refl i;
+        masks = msi-bit a (a + 2 + 1) 3 0 (cond (shapeOf c .msi .extended) 4 0) o h (omega arith) (omega arith) refl refl (off 0 refl (shapeOf c .msi .extended)) i;
+        extended = msi-bit a (a + 2 + 1) 3 1 (cond (shapeOf c .msi .extended) 4 0) o h (omega arith) (omega arith) refl refl (off 1 refl (shapeOf c .msi .extended)) i;
       }
+    where
+      off : (k : ℕ) → bit 4 k ≡ false → (e : Bool) → bit (cond e 4 0) k ≡ false
+      off k q true = q
+      off k q false = bit-of-zero k
 
   -- ---- MSI-X
 

@@ -45,7 +45,12 @@ pub(super) fn cards() -> Vec<Trial> {
         .event(3)
         .write(PLAIN_MSI + 2, 2, 0x21)
         .call(write(PLAIN_MSIX + 2, 2, 0x4000));
-    vec![fresh, wire, quiet, msi, msi_masked, msix, held]
+    let mut extended = Trial::start(&plain(1, Some(0x284), None));
+    extended
+        .write(PLAIN_MSI + 0x0C, 4, 0xABCD_49A3)
+        .write(PLAIN_MSI + 2, 2, 0x421)
+        .event(1);
+    vec![fresh, wire, quiet, msi, msi_masked, msix, held, extended]
 }
 
 /// Every length of the card's image, and every byte of it changed.

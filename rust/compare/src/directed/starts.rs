@@ -105,7 +105,7 @@ fn twice(runner: &mut Runner<'_>) -> Run {
 /// Every place of a structure, alone, beside the other one and beside another
 /// header.
 fn structures(runner: &mut Runner<'_>) -> Run {
-    for control in FORMS {
+    for control in FORMS.into_iter().flat_map(|form| [form, form | 0x200]) {
         let mut all = Vec::new();
         for at in places() {
             all.push(msi_and_msix(control, at, 0x80));

@@ -38,7 +38,7 @@ const POSSIBLE_WITH_FLAGS: [&[u8]; 10] = [
 ];
 
 /// Other things that a run should meet.
-pub const NAMED: [&str; 46] = [
+pub const NAMED: [&str; 67] = [
     "MSI 32-bit started",
     "MSI 64-bit started",
     "MSI 32-bit, masks started",
@@ -85,6 +85,27 @@ pub const NAMED: [&str; 46] = [
     "BAR width wider than 8 bits refused",
     "event wider than 16 bits refused",
     "level 256, or a multiple of it, is high",
+    "MSI 32-bit, 32-bit data started",
+    "MSI 64-bit, 32-bit data started",
+    "MSI 32-bit, masks, 32-bit data started",
+    "MSI 64-bit, masks, 32-bit data started",
+    "start cleared bit 10",
+    "start cleared the upper half of the data",
+    "start kept bit 10 without bit 9",
+    "bit 10 set by a write",
+    "bit 10 cleared by a write",
+    "bit 10 written without bit 9",
+    "upper half of the data written alone",
+    "upper half of the data written without bit 9",
+    "message with 32-bit data",
+    "message with 32-bit data, upper half not 0",
+    "message with 32-bit data above 4 GiB",
+    "waiting message with 32-bit data",
+    "message with bit 9 alone, upper half not 0 kept back",
+    "message with bit 10 alone, upper half not 0 kept back",
+    "reset cleared bit 10",
+    "reset kept bit 10 without bit 9",
+    "image with 32-bit data restored",
 ];
 
 /// The places of the tables.
@@ -120,6 +141,9 @@ impl Statistics {
         }
         if let Some(name) = wide::met(made) {
             self.met(name);
+        }
+        if accepted {
+            self.count_extended(made);
         }
     }
 

@@ -2,9 +2,10 @@
 use mathlib.Core.Path.{_∙_}
 use mathlib.Core.List.{[]}
 use Prim.Native.Nat.{_^_, _<_}
+use native.Mathlib.Omega.{arith}
 use Rattle.words.proofs.BitLaws.{and-not}
 use Rattle.model.specs.World.{endpointOf}
-use Rattle.endpoint.proofs.SweepFor.{msi-bytes, msi-sent}
+use Rattle.endpoint.proofs.SweepFor.{msi-bytes, owed-granted, msi-sent}
 use borrow.Author.Needs.{needs}
 use Rattle.endpoint.proofs.sweep.msi_send.Statement.{statement}
 use Rattle.endpoint.proofs.sweep.msi_send.Tie as tie
@@ -28,7 +29,10 @@ msi-send-requires c κs =
     let start = at-msi-owed .before .before .before .before in
     let f = start .args .t1 in
     let owed = at-msi-owed .msi-owed .ensures (f .sizes) (f .events) (f .requester) (f .line) [] [] in
-    (at-msi-base .msi-base .ensures .1, rw (msi-bytes _ (endpointOf _ [] []) _ _ owed (at-msi-base .msi-base .ensures .0 [])) at (start .pre .2 [] []))
+    let base = at-msi-base .msi-base .ensures [] in (
+      λ v b. omega (arith, base .1, owed-granted _ (endpointOf _ [] []) _ v owed (search needs) b),
+      rw (msi-bytes _ (endpointOf _ [] []) _ _ owed (base .0)) at (start .pre .2 [] []),
+    )
 
 -- the waiting bits are a word
 word : (c : tie.Start) → c .args .t1 .waiting < 2 ^ 32
@@ -41,7 +45,7 @@ returns c =
     let at-msi-owed = at-msi-base .before .before .before in
     let start = at-msi-owed .before .before .before .before in
     λ t p.
-    msi-sent _ (endpointOf _ t p) _ _ _ _ _ _ (at-msi-owed .msi-owed .ensures _ _ _ _ t p) (at-msi-base .msi-base .ensures .0 t) (search needs)
+    msi-sent _ (endpointOf _ t p) _ _ _ _ _ _ (at-msi-owed .msi-owed .ensures _ _ _ _ t p) (at-msi-base .msi-base .ensures t .0) (search needs)
     (and-not 32 _ _ (search needs) (word start)) (at-msi-send .msi-send .ensures)
 
 pub msi-send-spec : {M : Type 1} → statement M

@@ -25,7 +25,7 @@ returns c =
     let at-msi-owed = at-msi-base .before .before .before in
     λ t p.
     c .msi-size .ensures _ _ _
-    ∙ sym (ap length (msi-bytes _ (endpointOf _ t p) _ _ (at-msi-owed .msi-owed .ensures _ _ _ _ t p) (at-msi-base .msi-base .ensures .0 t)))
+    ∙ sym (ap length (msi-bytes _ (endpointOf _ t p) _ _ (at-msi-owed .msi-owed .ensures _ _ _ _ t p) (at-msi-base .msi-base .ensures t .0)))
 
 pub msi-size-spec : {M : Type 1} → statement M
 msi-size-spec = tie.close (tie.spec msi-owed-requires msi-base-requires (λ c κs. search needs) returns)

@@ -1,11 +1,13 @@
 -- Sent, merged or held: one law for each. Assumes nothing.
 use denote.Ref.{now}
-use mathlib.Core.Path.{refl, _∙_}
+use mathlib.Core.Path.{refl, sym, _∙_}
 use mathlib.Core.Bool.{Bool}
 use mathlib.Core.List.{List}
 use Prim.Native.Nat.{ℕ}
 use Rattle.model.specs.declared.Card.{Card}
 use Rattle.model.specs.World.{Endpoint, worldOf}
+use Rattle.model.proofs.Vectors.SweepLaws.{open-parts}
+use Rattle.vectors.specs.Given.{regs}
 use Rattle.card.specs.Running.{cardWith}
 use Rattle.interrupt.proofs.EventFor.{raised-open, raised-merged, raised-held}
 use borrow.Author.Needs.{needs}
@@ -26,9 +28,12 @@ is-open-requires c κs =
 
 send-requires : tie.Need-send-requires
 send-requires c κs =
-    let at-is-open = c .before .before in
+    let at-if1 = c .before in
+    let at-is-open = at-if1 .before in
     let start = at-is-open .before .before .before .before in
-    (start .pre .0, start .pre .1 .table, start .pre .2)
+    let a = start .args in
+    let opened = sym (at-is-open .is-open .ensures) ∙ at-if1 .if1 .taken in
+    (start .pre .0, start .pre .1 .table, open-parts (a .k .mode) (a .k .shape) (regs (now (a .config)) (now (a .table))) (a .v .0) opened .enable)
 
 returns : tie.Need-returns
 returns c =

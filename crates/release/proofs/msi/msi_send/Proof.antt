@@ -13,7 +13,7 @@ use Rattle.words.proofs.OnesLaws.{no-set-bits}
 use Rattle.model.specs.Packets.{message}
 use Rattle.model.proofs.Vectors.PacketLaws.{message-length}
 use Rattle.release.specs.Owed.{msiPackets}
-use Rattle.words.proofs.SetBits.{Turn, turn}
+use Rattle.words.proofs.SetBits.{Turn, turn, Remaining, remaining-all, remaining-next}
 use Rattle.words.proofs.ListLaws.{join-first, join-none}
 use Rattle.words.proofs.Sending.{Sending, sending-all, sending-fits, sending-next, sending-done}
 use borrow.Author.Needs.{needs}
@@ -22,7 +22,7 @@ use Rattle.release.proofs.msi.msi_send.Tie as tie
 
 abbrev Inv-loop : tie.InvT-loop
 Inv-loop out₀ requester upper address base owed left₀ at₀ out left at =
-    (left < 2 ^ 32) × Sending (msiPackets requester upper address base owed) out₀ out (msiPackets requester upper address base left) at
+    Remaining 32 owed left × Sending (msiPackets requester upper address base owed) out₀ out (msiPackets requester upper address base left) at
 
 abbrev μ-loop : tie.MeasureT-loop
 μ-loop out₀ requester upper address base owed left₀ at₀ out left at = left
@@ -42,7 +42,7 @@ module _ (c : tie.In-loop Inv-loop μ-loop) where
   v = trailingZeros 32 left
 
   t : Turn 32 left v
-  t = turn 32 left v (at-loop .loop .inv .0) (lowest-trailing 32 left (omega arith) (at-loop .loop .inv .0))
+  t = turn 32 left v (at-loop .loop .inv .0 .fits) (lowest-trailing 32 left (omega arith) (at-loop .loop .inv .0 .fits))
 
   -- the message of vector j, and those of the bits of w
   abbrev packet : ℕ → List ℕ
@@ -61,7 +61,7 @@ module _ (c : tie.In-loop Inv-loop μ-loop) where
   fits = sending-fits _ _ _ (todo left) _ (packet v) rest (start .pre .1) (at-loop .loop .inv .1) first
 
 loop-holds : tie.Need-loop-holds Inv-loop μ-loop
-loop-holds c = (search needs, sending-all _ _)
+loop-holds c = (remaining-all 32 _ (search needs), sending-all _ _)
 
 sub-put-message : tie.Need-sub-put-message Inv-loop μ-loop
 sub-put-message c = omega (arith, fits c)
@@ -70,7 +70,10 @@ part-put-message-start : tie.Need-part-put-message-start Inv-loop μ-loop
 part-put-message-start c = omega (arith, fits c)
 
 add-put-message : tie.Need-add-put-message Inv-loop μ-loop
-add-put-message c = omega (arith, t (c .before) .within)
+add-put-message c =
+    let in-loop = c .before in
+    let l = at-loop in-loop .loop in
+    omega (arith, start in-loop .pre .0 (v in-loop) (l .inv .0 .part (v in-loop) (t in-loop .set)))
 
 put-message-requires : tie.Need-put-message-requires Inv-loop μ-loop
 put-message-requires c κs =
@@ -96,7 +99,7 @@ loop-again c =
     let l = at-loop in-loop .loop in
     let p = packet in-loop (v in-loop) in
     let call = at-put-message .put-message in (
-      omega (arith, t in-loop .less),
+      remaining-next 32 _ (l .left) (v in-loop) (l .inv .0) (t in-loop),
       sending-next _ _ (l .out) (todo in-loop (l .left)) (l .at) p (rest in-loop) _ (call .result) (start in-loop .pre .1) (l .inv .1) (first in-loop)
           (call .ensures .count)
           (c .before .out .given .1)

@@ -1,14 +1,19 @@
 -- Its parts, each by its own function. Assumes nothing.
 use mathlib.Core.Path.{_≡_}
-use Prim.Native.Nat.{ℕ, _-_, _*_, _/_, _%_, _<_}
+use Prim.Native.Nat.{ℕ, _-_, _+_, _*_, _/_, _%_, _^_, _≤_, _<_}
 use native.Mathlib.Omega.{arith}
 use native.Mathlib.Nat.{div-add-mod', mod-le}
 use lib.ListN.{length}
 use denote.Ref.{now}
 use borrow.Author.Needs.{needs}
 use Rattle.model.proofs.Shapes.PlaceLaws.{size-large}
-use Rattle.model.specs.Packets.{msiAddress}
+use Rattle.model.specs.declared.Shape.{Shape}
+use Rattle.model.specs.World.{Registers}
+use Rattle.model.specs.Vectors.{granted}
+use Rattle.model.specs.Packets.{msiAddress, msiData}
+use Rattle.vectors.specs.Given.{regs}
 use Rattle.vectors.specs.Messages.{msiBase}
+use Rattle.vectors.proofs.GrantedLaws.{granted-room}
 use Rattle.vectors.proofs.message.msi_base.Statement.{statement}
 use Rattle.vectors.proofs.message.msi_base.Tie as tie
 
@@ -16,8 +21,9 @@ use Rattle.vectors.proofs.message.msi_base.Tie as tie
 low-bits : (x g : ℕ) → x - x % g ≡ x / g * g
 low-bits x g = omega (arith, div-add-mod' x g)
 
-small : (x g : ℕ) → x < 65536 → x - x % g < 65536
-small x g h = omega arith
+-- a vector that is granted can be added
+room : (s : Shape) (r : Registers) (x g : ℕ) → x ≡ msiData s r → g ≡ granted s r → x < 2 ^ 32 → x - x % g + granted s r ≤ 4294967296
+room s r x g e q l = rw (low-bits x g, q, e) (granted-room s r (rw e at l))
 
 word32-requires : tie.Need-word32-requires
 word32-requires c κs =
@@ -33,9 +39,14 @@ sub-t12 c =
 returns : tie.Need-returns
 unfolding msiBase msiAddress
 returns c =
-    let d = c .before .before .before .before in (
-      λ t. rw (c .before .before .before .msi-upper .ensures t, c .word32 .ensures, low-bits, d .msi-data .ensures .0 t, d .before .granted .ensures .0 t),
-      small _ _ (d .msi-data .ensures .1),
+    let at-data = c .before .before .before .before in
+    let at-granted = at-data .before in
+    let start = at-granted .before in
+    let x = at-data .msi-data .result in
+    let g = at-granted .granted .result in
+    λ t. (
+      rw (c .before .before .before .msi-upper .ensures t, c .word32 .ensures, low-bits, at-data .msi-data .ensures t, at-granted .granted .ensures .0 t),
+      room (start .args .s) (regs (now (start .args .c)) t) x g (at-data .msi-data .ensures t) (at-granted .granted .ensures .0 t) (search needs),
     )
 
 pub msi-base-spec : {M : Type 1} → statement M

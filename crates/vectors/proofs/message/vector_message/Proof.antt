@@ -2,25 +2,31 @@
 use lib.ListN.{length}
 use denote.Ref.{now}
 use borrow.Author.Needs.{needs}
-use Rattle.vectors.proofs.CountLaws.{pin-has-none, entry-inside}
+use Rattle.vectors.proofs.CountLaws.{pin-not-enabled, enabled-granted, enabled-entry, entry-inside}
+use Rattle.vectors.specs.Given.{regs}
 use Rattle.vectors.proofs.message.vector_message.Statement.{statement}
 use Rattle.vectors.proofs.message.vector_message.Tie as tie
 
 msi-message-requires : tie.Need-msi-message-requires
 msi-message-requires c κs =
-    let k = c .before .before .before .pre .0 in
-    (k .fits, k .form)
+    let start = c .before .before .before in
+    let a = start .args in
+    let k = start .pre .0 in
+    (k .fits, k .form, enabled-granted (a .k .shape) (now (a .c)) (now (a .table)) (a .v .0) (rw (c .enum-told2 .given .1) at (start .pre .2)))
 
 msix-message-requires : tie.Need-msix-message-requires
 msix-message-requires c κs =
     let start = c .before .before .before in
     let a = start .args in
-    entry-inside (a .k .shape) (length (now (a .table))) (a .v .0) (rw (c .enum-told3 .given .1) at (start .pre .2)) (start .pre .1)
+    let r = regs (now (a .c)) (now (a .table)) in
+    entry-inside (a .k .shape) (length (now (a .table))) (a .v .0) (enabled-entry (a .k .shape) r (a .v .0) (rw (c .enum-told3 .given .1) at (start .pre .2)))
+    (start .pre .1)
 
 returns : tie.Need-returns
 returns c =
     let start = c .before .before .before in
-    absurd (pin-has-none (start .args .k .shape) (start .args .v .0) (rw (c .enum-told .given .1) at (start .pre .2)))
+    let a = start .args in
+    absurd (pin-not-enabled (a .k .shape) (regs (now (a .c)) (now (a .table))) (a .v .0) (rw (c .enum-told .given .1) at (start .pre .2)))
 
 returns-2 : tie.Need-returns-2
 returns-2 c =
