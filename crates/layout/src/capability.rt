@@ -75,14 +75,14 @@ pub fn read_list(c: &[u8; 256]) -> Listing
     let mut n: usize = 0;
     loop {
         let at = place(p);
-        if at == 0 {
-            return Listing {
-                broken: false,
-                msi,
-                msix,
-            };
-        }
         if at < 64 {
+            if at == 0 {
+                return Listing {
+                    broken: false,
+                    msi,
+                    msix,
+                };
+            }
             return broken_list();
         }
         if n == 48 {

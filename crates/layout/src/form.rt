@@ -6,32 +6,40 @@ ghost use Rattle.model.specs.Shape.{forms, formOf};
 use model::Form;
 use model::Shape;
 
-// Where the data register is: in the 32-bit forms, and in the 64-bit ones.
-const DATA_32: usize = 0x08;
+// A row of the table.
+struct Row {
+    message: u8,
+    mask: u8,
+    pending: u8,
+    size: u8,
+}
 
-const DATA_64: usize = 0x0c;
+// Where the data register is: in the 32-bit forms, and in the 64-bit ones.
+const DATA_32: u8 = 0x08;
+
+const DATA_64: u8 = 0x0c;
 
 // By control bits 7 (64-bit) and 8 (masks).
-const FORMS: [Form; 4] = [
-    Form {
+const FORMS: [Row; 4] = [
+    Row {
         message: DATA_32,
         mask: 0,
         pending: 0,
         size: 10,
     },
-    Form {
+    Row {
         message: DATA_64,
         mask: 0,
         pending: 0,
         size: 14,
     },
-    Form {
+    Row {
         message: DATA_32,
         mask: 0x0c,
         pending: 0x10,
         size: 20,
     },
-    Form {
+    Row {
         message: DATA_64,
         mask: 0x10,
         pending: 0x14,
@@ -42,8 +50,13 @@ const FORMS: [Form; 4] = [
 fn form_row(s: Shape) -> Form
     ensures { λ r. ⌜ (r ≡ forms (s .msi .masks) (s .msi .wide)) × (r .size ≤ 24) ⌝ }
 {
-    let row = (s.msi.wide as usize) + 2 * (s.msi.masks as usize);
-    FORMS[row]
+    let row = FORMS[(s.msi.wide as usize) + 2 * (s.msi.masks as usize)];
+    Form {
+        message: row.message as usize,
+        mask: row.mask as usize,
+        pending: row.pending as usize,
+        size: row.size as usize,
+    }
 }
 
 // With control bit 9 (extended message data) the unmasked forms are two bytes longer.

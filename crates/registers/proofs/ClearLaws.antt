@@ -10,7 +10,7 @@ use Rattle.words.specs.Lists.{within}
 use Rattle.words.specs.Bits.{bit, clear}
 use Rattle.words.specs.Bytes.{byte, Bytes}
 use Rattle.words.proofs.BitLaws.{bits-ext-below, bit-clear, bit-ones, bit-of-zero, clear-le, clear-none}
-use Rattle.words.proofs.BoolLaws.{both, and-intro, by-test, not-between}
+use Rattle.words.proofs.BoolLaws.{both, and-intro, by-test, cond-same, not-between}
 use Rattle.words.proofs.ListLaws.{within-true, true-within, not-within}
 use Rattle.model.specs.declared.Form.{Form}
 use Rattle.model.specs.declared.Shape.{Shape}
@@ -68,6 +68,16 @@ runs s = go (s .msi .extended) (s .msi .masks) (s .msi .wide)
 pub message-small : (s : Shape) (f : Form) → f ≡ formOf s → f .message ≤ 12
 message-small s f e = subst (Runs (dataBytes s)) (sym e) (runs s) .high
 
+-- of the first four bytes only byte 2 has writable bits, and byte 3 with control bit 9
+none : (extended : Bool) (d : ℕ) → (2 ≤ d → cond extended 4 3 ≤ d) → d < 4
+    → _≡_ {A = ℕ} (cond (eqb d 2) 0x71 (cond (eqb d 3) (cond extended 0x04 0) 0)) 0
+none true d n l = rw (ne-eqb d 2 (λ q. omega (arith, n (omega arith))), ne-eqb d 3 (λ q. omega (arith, n (omega arith))))
+none false d n l = rw (ne-eqb d 2 (λ q. omega (arith, n (omega arith)))) (cond-same (eqb d 3) 0)
+
+control-most : (extended : Bool) → cond extended 4 3 ≤ 4
+control-most true = omega arith
+control-most false = omega arith
+
 -- a place before the n from lo on
 ahead : (lo n k : ℕ) → k < lo → within lo n k ≡ false
 ahead lo n k h = by-test (within lo n k) (λ t. absurd (omega (arith, within-true lo n k t .0))) (λ t. t)
@@ -118,12 +128,12 @@ module _ (s : Shape) (f : Form) (e : f ≡ formOf s) (h : 64 ≤ s .msi .at) (k 
   stays : s .msi .at ≤ k → k < s .msi .at + f .size → 0 ≡ msiWritable s (k - s .msi .at) → 0 ≡ msiZero s (k - s .msi .at) → fixedByte s k x ≡ x
   stays i j p q = fixed-msi i j 0 0 p q ∙ clear-none (clear 0 x) ∙ clear-none x
 
-  -- bytes 0 and 1
-  control-stays : s .msi .at ≤ k → k < s .msi .at + 4 → (s .msi .at + 2 ≤ k → s .msi .at + 4 ≤ k) → fixedByte s k x ≡ x
+  -- bytes 0 and 1, and byte 3 without control bit 9
+  control-stays : s .msi .at ≤ k → k < s .msi .at + 4 → (s .msi .at + 2 ≤ k → s .msi .at + cond (s .msi .extended) 4 3 ≤ k) → fixedByte s k x ≡ x
   control-stays i j n =
       let d = k - s .msi .at in
       let l : k < s .msi .at + f .size = omega (arith, run .low, run .data-end) in
-      stays i l (sym (control-writable s d (omega arith) ∙ rw (ne-eqb d 2 (λ q. omega (arith, n (omega arith))), ne-eqb d 3 (λ q. omega (arith, n (omega arith))))))
+      stays i l (sym (control-writable s d (omega arith) ∙ none (s .msi .extended) d (λ h. omega (arith, n (omega arith))) (omega arith)))
       (sym (low-zero s d (omega arith) ∙ rw (ne-eqb d 4 (omega arith))))
 
   -- behind 16-bit data its upper half
@@ -159,14 +169,15 @@ module _ (s : Shape) (f : Form) (e : f ≡ formOf s) (h : 64 ≤ s .msi .at) whe
 
   -- no step changes byte k
   kept : (k x : ℕ) → s .msi .at ≤ k → k < min (s .msi .at + f .size) 256
-      → (s .msi .at + 2 ≤ k → s .msi .at + 4 ≤ k) → (s .msi .at + 4 ≤ k → s .msi .at + (f .message + dataBytes s) ≤ k) → (s .msi .at + (f .message + 4) ≤ k → ⊥)
+      → (s .msi .at + 2 ≤ k → s .msi .at + cond (s .msi .extended) 4 3 ≤ k)
+      → (s .msi .at + 4 ≤ k → s .msi .at + (f .message + dataBytes s) ≤ k) → (s .msi .at + (f .message + 4) ≤ k → ⊥)
       → fixedByte s k x ≡ x
   kept k x i j n₂ n₄ n₆ =
       by-test (ltb k (s .msi .at + 4))
       (λ t. control-stays s f e h k x i (ltb-true k (s .msi .at + 4) t) n₂)
       (λ t. gap-stays s f e h k x (n₄ (ltb-false k (s .msi .at + 4) t)) (omega (arith, n₆)) (omega arith))
 
-  pub msi-steps : (l₂ l₃ l₄ l₅ l₆ l₇ : ℕ) → End 2 l₂ → End 4 l₃ → End 4 l₄ → End (f .message + dataBytes s) l₅ → End (f .message + 4) l₆ → End (f .size) l₇
+  pub msi-steps : (l₂ l₃ l₄ l₅ l₆ l₇ : ℕ) → End 2 l₂ → End (cond (s .msi .extended) 4 3) l₃ → End 4 l₄ → End (f .message + dataBytes s) l₅ → End (f .message + 4) l₆ → End (f .size) l₇
       → (c d₁ d₂ d₃ : List ℕ) → Bytes c
       → ((k : ℕ) → byte d₁ k ≡ partFixed s l₂ l₃ c k) → ((k : ℕ) → byte d₂ k ≡ partZero l₄ l₅ d₁ k) → ((k : ℕ) → byte d₃ k ≡ partZero l₆ l₇ d₂ k)
       → (k : ℕ) → byte d₃ k ≡ partFixed s (s .msi .at) (min (s .msi .at + f .size) 256) c k
@@ -185,7 +196,7 @@ module _ (s : Shape) (f : Form) (e : f ≡ formOf s) (h : 64 ≤ s .msi .at) whe
       ∙ sym (part-in (fixedByte s) a m c k (between a m k (omega arith) (omega (arith, r .data-end))) ∙ address-zero s f e h k x (b k) (omega arith) (omega arith)))
       (λ t₂. part-out (λ j y. 0) l₄ l₅ d₁ k t₂ ∙ p₁ k ∙ by-test (leb l₂ k && ltb k l₃)
       (λ t₁. let i = inside l₂ l₃ k t₁ in
-      part-in (fixedByte s) l₂ l₃ c k t₁ ∙ sym (part-in (fixedByte s) a m c k (between a m k (omega arith) (omega (arith, r .low, r .data-end)))))
+      part-in (fixedByte s) l₂ l₃ c k t₁ ∙ sym (part-in (fixedByte s) a m c k (between a m k (omega arith) (omega (arith, r .low, r .data-end, control-most (s .msi .extended))))))
       (λ t₁. part-out (fixedByte s) l₂ l₃ c k t₁ ∙ sym (by-test (leb a k && ltb k m)
       (λ t. let i = inside a m k t in
       part-in (fixedByte s) a m c k t ∙ kept k x (i .0) (i .1)

@@ -42,6 +42,10 @@ module _ (g : ℕ → ℕ → ℕ) (lo : ℕ) (c : List ℕ) where
       same-test (ltb k i) (ltb k (i + 1)) (λ u. lt-ltb k (i + 1) (omega (arith, ltb-true k i u))) (λ u. lt-ltb k i (omega (arith, q, ltb-true k (i + 1) u))) in
       getD-set-other d i k x 0 q ∙ t k ∙ rw b)
 
+  -- its first byte is stored
+  pub part-one : (x : ℕ) → lo < length c → x ≡ g lo (byte c lo) → (k : ℕ) → byte (set c lo x) k ≡ partOf g lo (lo + 1) c k
+  part-one x h e = part-more c lo x (omega arith) h part-none e
+
   -- the loop over the part ends at i
   pub part-all : (hi i : ℕ) → hi ≤ i → i ≤ max lo hi → (k : ℕ) → partOf g lo i c k ≡ partOf g lo hi c k
   unfolding partOf

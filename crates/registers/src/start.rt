@@ -1,5 +1,6 @@
 // The configuration of a started card.
 ghost use mathlib.Core.Path.{_≡_};
+ghost use mathlib.Core.Bool.{cond};
 ghost use Prim.Native.Nat.{ℕ, _+_, _≤_, min, max};
 ghost use lib.ListN.{length};
 ghost use Rattle.words.specs.Bytes.{byte};
@@ -40,6 +41,24 @@ fn fix_part(config: &mut [u8], s: Shape, f: Form, lo: usize, hi: usize)
     }
 }
 
+// The same for Command and the low byte of Status.
+fn fix_command(config: &mut [u8], s: Shape, f: Form)
+    requires { ⌜ (length (now config) ≡ 256) × (s .msi .capable ≤ 5) × (f ≡ formOf s) ⌝ }
+    ensures { λ r. ⌜ ((k : ℕ) → byte (now (config .exit)) k ≡ partFixed s 4 7 (now (config .entry)) k) ⌝ }
+{
+    config[4] = fixed_byte(s, f, 4, config[4]);
+    config[5] = fixed_byte(s, f, 5, config[5]);
+    config[6] = fixed_byte(s, f, 6, config[6]);
+}
+
+// The same for Interrupt Line.
+fn fix_line(config: &mut [u8], s: Shape, f: Form)
+    requires { ⌜ (length (now config) ≡ 256) × (s .msi .capable ≤ 5) × (f ≡ formOf s) ⌝ }
+    ensures { λ r. ⌜ ((k : ℕ) → byte (now (config .exit)) k ≡ partFixed s 0x3c 0x3d (now (config .entry)) k) ⌝ }
+{
+    config[0x3c] = fixed_byte(s, f, 0x3c, config[0x3c]);
+}
+
 // The bytes from place lo to hi - 1 are 0.
 fn zero_part(config: &mut [u8], lo: usize, hi: usize)
     requires { ⌜ (length (now config) ≡ 256) × (hi ≤ 256) ⌝ }
@@ -50,12 +69,25 @@ fn zero_part(config: &mut [u8], lo: usize, hi: usize)
     }
 }
 
+// Where the bytes of MSI's control register end that have writable bits: byte 3 has one with control bit 9.
+fn control_end(extended: bool) -> usize
+    ensures { λ r. ⌜ (r ≡ cond extended 4 3) × (r ≤ 4) ⌝ }
+{
+    if extended { 4 } else { 3 }
+}
+
 // MSI's bytes, where it stands from 40h on: bits of the control register, then address and data, then masks and Pending, if any.
 fn clear_msi(config: &mut [u8], s: Shape, f: Form)
     requires { ⌜ (length (now config) ≡ 256) × (64 ≤ s .msi .at) × (s .msi .capable ≤ 5) × (f ≡ formOf s) ⌝ }
     ensures { λ r. ⌜ ((k : ℕ) → byte (now (config .exit)) k ≡ partFixed s (s .msi .at) (min (s .msi .at + f .size) 256) (now (config .entry)) k) ⌝ }
 {
-    fix_part(config, s, f, part_end(s.msi.at, 2), part_end(s.msi.at, 4));
+    fix_part(
+        config,
+        s,
+        f,
+        part_end(s.msi.at, 2),
+        part_end(s.msi.at, control_end(s.msi.extended)),
+    );
     zero_part(
         config,
         part_end(s.msi.at, 4),
@@ -89,8 +121,8 @@ fn started_bytes(c: &[u8], s: Shape, f: Form) -> [u8; 256]
     for i in 0..256usize {
         config[i] = c[i];
     }
-    fix_part(&mut config, s, f, 4, 7);
-    fix_part(&mut config, s, f, 0x3c, 0x3d);
+    fix_command(&mut config, s, f);
+    fix_line(&mut config, s, f);
     fix_msi(&mut config, s, f);
     fix_part(
         &mut config,

@@ -37,34 +37,34 @@ module _ (c : tie.After-place Inv-loop μ-loop) where
 
 returns : tie.Need-returns Inv-loop μ-loop
 returns c =
-    let at-place = c .before in
+    let at-place = c .before .before in
     let v = at-loop at-place .loop in
     turn-ends (config at-place) (v .msi) (v .msix) (v .n) (v .p) (at-place .place .result) _ (at-place .place .ensures .0)
-    (v .inv .3) (c .if1 .taken)
+    (v .inv .3) (c .if2 .taken)
 
 returns-2 : tie.Need-returns-2 Inv-loop μ-loop
 returns-2 c =
-    let at-if1 = c .before .before in
+    let at-if2 = c .before in
+    let at-if1 = at-if2 .before in
     let at-place = at-if1 .before in
     let v = at-loop at-place .loop in
     c .broken-list .ensures
     ∙ turn-low (config at-place) (v .msi) (v .msix) (v .n) (v .p) (at-place .place .result) _ (at-place .place .ensures .0)
-    (v .inv .3) (at-if1 .if1 .left) (c .before .if2 .taken)
+    (v .inv .3) (at-if2 .if2 .left) (at-if1 .if1 .taken)
 
 returns-3 : tie.Need-returns-3 Inv-loop μ-loop
 returns-3 c =
-    let at-if1 = c .before .before .before in
+    let at-if1 = c .before .before in
     let at-place = at-if1 .before in
     let v = at-loop at-place .loop in
     c .broken-list2 .ensures
     ∙ turn-full (config at-place) (v .msi) (v .msix) (v .n) (v .p) (at-place .place .result) _ (at-place .place .ensures .0)
-    (v .inv .3) (at-if1 .if1 .left) (c .before .if3 .taken)
+    (v .inv .3) (λ z. omega (arith, at-if1 .if1 .left)) (c .before .if3 .taken)
 
 loop-again : tie.Need-loop-again Inv-loop μ-loop
 loop-again c =
     let at-with = c .before .before in
-    let at-if2 = at-with .before .before .before in
-    let at-if1 = at-if2 .before in
+    let at-if1 = at-with .before .before .before in
     let at-place = at-if1 .before in
     let v = at-loop at-place .loop in (
       search needs,
@@ -72,7 +72,7 @@ loop-again c =
       search needs,
       rw (c .before .with2 .ensures .0, at-with .with .ensures .0)
           (turn-more (config at-place) (v .msi) (v .msix) (v .n) (v .p) (at-place .place .result) _ (at-place .place .ensures .0)
-          (v .inv .3) (at-if1 .if1 .left) (at-if2 .if2 .left) (search needs)),
+          (v .inv .3) (λ z. omega (arith, at-if1 .if1 .left)) (at-if1 .if1 .left) (search needs)),
     )
 
 pub read-list-spec : {M : Type 1} → statement M

@@ -12,7 +12,7 @@ use Rattle.registers.proofs.start.clear_msi.Tie as tie
 -- bytes 2 and 3 are fixed
 module _ (c : tie.After-fix-part) where
   abbrev at-part-end : tie.After-part-end
-  at-part-end = c .before .before
+  at-part-end = c .before .before .before
 
   abbrev known : tie.After-slice-known
   known = at-part-end .before .before
@@ -52,10 +52,11 @@ returns c =
     let at-zero-part = known3 .before .before in
     let at-part-end4 = at-zero-part .before in
     let at-fix-part = fixed at-zero-part in
+    let at-part-end2 = at-fix-part .before in
     let begin = start at-fix-part in
     msi-steps (begin .args .s) (begin .args .f) (begin .pre .3) (begin .pre .1) _ _ _ _ _ _
     (at-part-end at-fix-part .part-end .ensures)
-    (at-fix-part .before .part-end2 .ensures)
+    (at-part-end2 .part-end2 .ensures ∙ ap (λ (n : ℕ). min (begin .args .s .msi .at + n) 256) (at-part-end2 .before .control-end .ensures .0))
     (at-part-end3 at-zero-part .part-end3 .ensures)
     (at-part-end4 .part-end4 .ensures ∙ ap (λ (n : ℕ). min (begin .args .s .msi .at + (begin .args .f .message + n)) 256) (at-part-end4 .before .before .data-bytes .ensures .0))
     (at-part-end5 .part-end5 .ensures)
@@ -68,7 +69,7 @@ pub clear-msi-spec : {M : Type 1} → statement M
 clear-msi-spec =
     tie.close
     (tie.spec
-    (λ c κs. search needs) (λ c κs. search needs) (λ c κs. search needs) (λ c κs. search needs)
+    (λ c κs. search needs) (λ c κs. search needs) (λ c κs. search needs) (λ c κs. search needs) (λ c κs. search needs)
     (λ c κs. search needs)
     add-part-end
     (λ c κs. search needs) (λ c κs. search needs)

@@ -39,42 +39,42 @@ module _ (c : tie.After-loop Inv-loop μ-loop) where
   abbrev start : tie.Start Inv-loop μ-loop
   start = at-loop .before .before
 
-fix-part-requires : tie.Need-fix-part-requires Inv-loop μ-loop
-fix-part-requires c κs =
+fix-command-requires : tie.Need-fix-command-requires Inv-loop μ-loop
+fix-command-requires c κs =
     let copied = c .before in
-    (at-loop copied .loop .inv .1, omega arith, start copied .pre .1, start copied .pre .2)
+    (at-loop copied .loop .inv .1, start copied .pre .1, start copied .pre .2)
 
-fix-part-requires-2 : tie.Need-fix-part-requires-2 Inv-loop μ-loop
-fix-part-requires-2 c κs =
-    let at-fix-part = c .before .before in
-    let copied = at-fix-part .before .before in
-    (search needs, omega arith, start copied .pre .1, start copied .pre .2)
+fix-line-requires : tie.Need-fix-line-requires Inv-loop μ-loop
+fix-line-requires c κs =
+    let at-fix-command = c .before .before in
+    let copied = at-fix-command .before .before in
+    (search needs, start copied .pre .1, start copied .pre .2)
 
 fix-msi-requires : tie.Need-fix-msi-requires Inv-loop μ-loop
 fix-msi-requires c κs =
-    let at-fix-part2 = c .before .before in
-    let at-fix-part = at-fix-part2 .before .before .before in
-    let copied = at-fix-part .before .before in
+    let at-fix-line = c .before .before in
+    let at-fix-command = at-fix-line .before .before .before in
+    let copied = at-fix-command .before .before in
     (search needs, start copied .pre .1, start copied .pre .2)
 
-fix-part-requires-3 : tie.Need-fix-part-requires-3 Inv-loop μ-loop
-fix-part-requires-3 c κs =
+fix-part-requires : tie.Need-fix-part-requires Inv-loop μ-loop
+fix-part-requires c κs =
     let at-part-end = c .before in
     let at-fix-msi = at-part-end .before .before .before in
-    let at-fix-part2 = at-fix-msi .before .before .before in
-    let at-fix-part = at-fix-part2 .before .before .before in
-    let copied = at-fix-part .before .before in
+    let at-fix-line = at-fix-msi .before .before .before in
+    let at-fix-command = at-fix-line .before .before .before in
+    let copied = at-fix-command .before .before in
     (search needs, omega (arith, c .part-end2 .ensures), start copied .pre .1, start copied .pre .2)
 
 returns : tie.Need-returns Inv-loop μ-loop
 returns c =
-    let at-fix-part3 = c .before in
-    let at-part-end2 = at-fix-part3 .before in
+    let at-fix-part = c .before in
+    let at-part-end2 = at-fix-part .before in
     let at-part-end = at-part-end2 .before in
     let at-fix-msi = at-part-end .before .before .before in
-    let at-fix-part2 = at-fix-msi .before .before .before in
-    let at-fix-part = at-fix-part2 .before .before .before in
-    let copied = at-fix-part .before .before in
+    let at-fix-line = at-fix-msi .before .before .before in
+    let at-fix-command = at-fix-line .before .before .before in
+    let copied = at-fix-command .before .before in
     let v = at-loop copied .loop in
     let s = start copied .args .s in
     let o = now (start copied .args .c) in
@@ -82,9 +82,9 @@ returns c =
     let same : v .config ≡ o = copy-end o (v .i) (v .config) _ (v .inv .2) h in
     let size = ap (λ (f : Form). min (s .msi .at + f .size) 256) (start copied .pre .2) in
     four-parts s (v .config) _ _ _ size (at-part-end .part-end .ensures) (at-part-end2 .part-end2 .ensures) (v .inv .1) _ _ _ _
-    (at-fix-part .fix-part .ensures)
-    (at-fix-part2 .fix-part2 .ensures)
-    (at-fix-msi .fix-msi .ensures) (at-fix-part3 .fix-part3 .ensures) (search needs)
+    (at-fix-command .fix-command .ensures)
+    (at-fix-line .fix-line .ensures)
+    (at-fix-msi .fix-msi .ensures) (at-fix-part .fix-part .ensures) (search needs)
     ∙ ap (startedConfig s) same
 
 pub started-bytes-spec : {M : Type 1} → statement M
@@ -97,11 +97,11 @@ started-bytes-spec =
     (λ c. search needs) (λ c. search needs) (λ c. search needs) (λ c. search needs)
     loop-again
     (λ c. search needs)
-    fix-part-requires
+    fix-command-requires
     (λ c. search needs)
-    fix-part-requires-2
+    fix-line-requires
     (λ c. search needs)
     fix-msi-requires
     (λ c. search needs) (λ c κs. search needs) (λ c κs. search needs)
-    fix-part-requires-3
+    fix-part-requires
     returns)
