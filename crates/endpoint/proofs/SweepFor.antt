@@ -13,7 +13,7 @@ use Rattle.words.specs.Writers.{Wrote}
 use Rattle.words.proofs.BitLaws.{bit-above}
 use Rattle.words.proofs.BoolLaws.{both, by-test}
 use Rattle.words.proofs.ListLaws.{keep-same, member-count, count-member, member-keep, join-same}
-use Rattle.model.proofs.Vectors.SweepLaws.{open-parts}
+use Rattle.model.proofs.Vectors.SweepLaws.{open-parts, owed-member, owed-below}
 use Rattle.model.specs.declared.Mode.{Mode}
 use Rattle.model.specs.declared.Mode.the-variants.{Pin, Msi, Msix}
 use Rattle.model.specs.declared.Shape.{Shape}
@@ -29,6 +29,7 @@ use Rattle.vectors.specs.Enabled.{msixEnabled}
 use Rattle.vectors.specs.Messages.{msiBase}
 use Rattle.vectors.specs.declared.message.Message.{Message}
 use Rattle.vectors.proofs.MessageLaws.{base-message}
+use Rattle.vectors.proofs.CountLaws.{enabled-granted}
 use Rattle.vectors.proofs.MsixLaws.{open-msix}
 use Rattle.vectors.proofs.OpenLaws.{owed-shut}
 use Rattle.release.specs.Owed.{setBits, msiPackets, entries, owes, owedEntries, entryPackets, clearPending, Released}
@@ -67,16 +68,13 @@ msi-bytes s u w b e q =
 
 -- each of them is granted
 pub owed-granted : (s : Shape) (u : Endpoint) (w v : ℕ) → owed Msi s u ≡ setBits 32 w → w < 2 ^ 32 → bit w v ≡ true → v < granted s (registers u)
-unfolding owed enabled
 owed-granted s u w v e h b =
     let within : v < 32 = by-test (ltb v 32) (ltb-true v 32) (λ t. absurd (false≢true (sym (bit-above 32 w v h (ltb-false v 32 t)) ∙ b))) in
     let listed : member v (setBits 32 w) ≡ true = member-keep (bit w) (count 0 32) v ∙ rw (b, count-member 0 32 v (omega arith) within) in
-    let o : ℕ → Bool = λ x. isOpen Msi s (registers u) x && waits Msi u x in
-    let mine : (o v && member v (count 0 (vectorCount Msi s))) ≡ true =
-    sym (member-keep o (count 0 (vectorCount Msi s)) v) ∙ ap (member v) e ∙ listed in
-    let owes = both (o v) (member v (count 0 (vectorCount Msi s))) mine .0 in
+    let mine : member v (owed Msi s u) ≡ true = ap (member v) e ∙ listed in
+    let owes = sym (owed-member Msi s u v (owed-below Msi s u v mine)) ∙ mine in
     let opened = both (isOpen Msi s (registers u) v) (waits Msi u v) owes .0 in
-    ltb-true v (granted s (registers u)) (open-parts Msi s (registers u) v opened .enable)
+    enabled-granted s (u .function .config) (u .table) v (open-parts Msi s (registers u) v opened .enable) (u .table)
 
 pub msi-swept : (s : Shape) (u : Endpoint) (w : ℕ) → owed Msi s u ≡ setBits 32 w → w < 2 ^ 32 → sweptFor Msi s u ≡ withWaiting u (clear w (u .function .waiting)) (u .pending)
 unfolding sweptFor

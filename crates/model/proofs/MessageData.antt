@@ -7,7 +7,6 @@ use native.Mathlib.Nat.{min-le-left, mul-le-mul-right, div-eq-of-lt}
 use native.Mathlib.Omega.{arith}
 use lib.Dec.{ltb}
 use lib.Pow.{pow-add, shr-lt, high, low}
-use borrow.Author.Tests.{ne-eqb, le-ltb}
 use Rattle.words.specs.Lists.{firstOf}
 use Rattle.words.specs.Bits.{bit, field}
 use Rattle.words.specs.Bytes.{byte, word16, word32, Bytes}
@@ -22,6 +21,7 @@ use Rattle.model.specs.World.{Registers}
 use Rattle.model.specs.Vectors.{enableField, granted}
 use Rattle.model.specs.Packets.{dataExtended, msiAddress, msiUpper, msiData, message, messageOf}
 use Rattle.model.specs.Extended.{wholeData, messageData, AllBits}
+use Rattle.model.proofs.Registers.ZeroLaws.{past-address}
 
 -- ---- which bits are writable
 
@@ -58,19 +58,12 @@ data-inside s e = rw e (go (s .msi .masks) (s .msi .wide))
 
 -- with bit 9 every bit of the data register and of the 16 bits after it is writable
 pub data-writable : (s : Shape) (k : ℕ) → s .msi .extended ≡ true → formOf s .message ≤ k → k < formOf s .message + 4 → msiWritable s k ≡ 0xff
-unfolding msiWritable dataBytes firstOf
+unfolding dataBytes
 data-writable s k e h j =
     let b : 8 ≤ formOf s .message = data-behind s in
     let n : dataBytes s ≡ 4 = ap (λ (t : Bool). cond t 4 2) e in
-    rw (
-      ne-eqb k 2 (omega arith),
-      ne-eqb k 3 (omega arith),
-      le-ltb k 4 (omega arith),
-      ne-eqb k 4 (omega arith),
-      le-ltb k 8 (omega arith),
-      true-within (formOf s .message) (dataBytes s) k h (omega (arith, n)),
-    )
-    (cond-same (s .msi .wide && ltb k 12) 0xff)
+    past-address s k (omega arith)
+    ∙ rw (true-within (formOf s .message) (dataBytes s) k h (omega (arith, n))) (cond-same (s .msi .wide && ltb k 12) 0xff)
 
 -- ---- the vector in the low bits
 

@@ -177,7 +177,8 @@ module _ (s : Shape) (f : Form) (e : f ≡ formOf s) (h : 64 ≤ s .msi .at) whe
       (λ t. control-stays s f e h k x i (ltb-true k (s .msi .at + 4) t) n₂)
       (λ t. gap-stays s f e h k x (n₄ (ltb-false k (s .msi .at + 4) t)) (omega (arith, n₆)) (omega arith))
 
-  pub msi-steps : (l₂ l₃ l₄ l₅ l₆ l₇ : ℕ) → End 2 l₂ → End (cond (s .msi .extended) 4 3) l₃ → End 4 l₄ → End (f .message + dataBytes s) l₅ → End (f .message + 4) l₆ → End (f .size) l₇
+  pub msi-steps : (l₂ l₃ l₄ l₅ l₆ l₇ : ℕ) → End 2 l₂ → End (cond (s .msi .extended) 4 3) l₃ → End 4 l₄
+      → End (f .message + dataBytes s) l₅ → End (f .message + 4) l₆ → End (f .size) l₇
       → (c d₁ d₂ d₃ : List ℕ) → Bytes c
       → ((k : ℕ) → byte d₁ k ≡ partFixed s l₂ l₃ c k) → ((k : ℕ) → byte d₂ k ≡ partZero l₄ l₅ d₁ k) → ((k : ℕ) → byte d₃ k ≡ partZero l₆ l₇ d₂ k)
       → (k : ℕ) → byte d₃ k ≡ partFixed s (s .msi .at) (min (s .msi .at + f .size) 256) c k

@@ -67,19 +67,19 @@ and-no-right : (a b : Bool) → b ≡ false → (a && b) ≡ false
 and-no-right true b e = e
 and-no-right false b e = refl
 
+-- from byte 8 on: the upper address, the data, the masks
+pub past-address : (s : Shape) (k : ℕ) → 8 ≤ k
+    → msiWritable s k ≡ cond (s .msi .wide && ltb k 12) 0xff
+    (cond (within (formOf s .message) (dataBytes s) k) 0xff (cond (inMask s k) (byte (maskBytes s) (k - formOf s .mask)) 0))
+unfolding msiWritable firstOf
+past-address s k h = rw (ne-eqb k 2 (omega arith), ne-eqb k 3 (omega arith), le-ltb k 4 (omega arith), ne-eqb k 4 (omega arith), le-ltb k 8 h)
+
 -- from byte 12 on, and behind the data register: only the masks are writable
 behind-data : (s : Shape) (k : ℕ) → 12 ≤ k → formOf s .message + 4 ≤ k → msiWritable s k ≡ cond (inMask s k) (byte (maskBytes s) (k - formOf s .mask)) 0
-unfolding msiWritable dataBytes firstOf
+unfolding dataBytes
 behind-data s k h j =
-    rw (
-      ne-eqb k 2 (omega arith),
-      ne-eqb k 3 (omega arith),
-      le-ltb k 4 (omega arith),
-      ne-eqb k 4 (omega arith),
-      le-ltb k 8 (omega arith),
-      and-no-right (s .msi .wide) (ltb k 12) (le-ltb k 12 h),
-      not-within (formOf s .message) (cond (s .msi .extended) 4 2) k (data-end (s .msi .extended)),
-    )
+    past-address s k (omega arith)
+    ∙ rw (and-no-right (s .msi .wide) (ltb k 12) (le-ltb k 12 h), not-within (formOf s .message) (cond (s .msi .extended) 4 2) k (data-end (s .msi .extended)))
   where
     data-end : (e : Bool) → formOf s .message + cond e 4 2 ≤ k
     data-end true = j
