@@ -10,38 +10,38 @@ use borrow.Author.Rules.{rules}
 use Rattle.words.proofs.get.read.Statement.{statement}
 use Rattle.words.proofs.get.read.Tie as tie
 
-abbrev invariant-loop : tie.invariant-loop
+abbrev invariant-loop : tie.invariant-loop-left
 invariant-loop s at n r₀ left₀ r left = (left ≤ n) × (r ≡ number (byte s) (at + left) (n - left))
 
-abbrev decreases-loop : tie.decreases-loop
+abbrev decreases-loop : tie.decreases-loop-left
 decreases-loop s at n r₀ left₀ r left = left
 
 -- in a turn at most seven bytes are read
-small : (c : tie.In-loop invariant-loop decreases-loop) → c.before.loop.r < 256 ^ 7
+small : (c : tie.In-loop-left invariant-loop decreases-loop) → c.before.loop-left.r < 256 ^ 7
 small c =
-    let v = c.before.loop in
+    let v = c.before.loop-left in
     let a = c.before.before.before.args in
     let f = byte a.s.now in
     let m = a.n - v.left in
     let l : m ≤ 7 = omega arith in
     let p : 256 ^ m ≤ 256 ^ 7 = pow-le-pow_right (omega arith) l in
-    omega (arith, v.invariant.1, number_lt f (a.at + v.left) m (λ k. (c.before.before.shared-slice-known.given k).fits))
+    omega (arith, v.invariant.1, number_lt f (a.at + v.left) m (λ k. (c.before.before.shared_slice_known-1.given k).fits))
 
-loop-holds : tie.Need-loop-init invariant-loop decreases-loop
+loop-holds : tie.Need-loop-left-init invariant-loop decreases-loop
 unfolding number
 loop-holds c = (omega arith, rw sub_self)
 
-mul-r : tie.Need-overflow-mul-r invariant-loop decreases-loop
+mul-r : tie.Need-overflow_mul-r invariant-loop decreases-loop
 mul-r c = omega (arith, small c)
 
-add_r : tie.Need-overflow-add-r invariant-loop decreases-loop
+add_r : tie.Need-overflow_add-r invariant-loop decreases-loop
 add_r c = omega (arith, small c.before.before)
 
-loop-again : tie.Need-loop-preserved invariant-loop decreases-loop
+loop-again : tie.Need-loop-left-preserved invariant-loop decreases-loop
 loop-again c =
     let at-loop = c.before.before.before in
     let start = at-loop.before.before in
-    let v = at-loop.loop in
+    let v = at-loop.loop-left in
     let a = start.args in
     let f = byte a.s.now in
     let i = a.at + (v.left - 1) in
@@ -52,7 +52,7 @@ loop-again c =
 
 returns : tie.Need-returns invariant-loop decreases-loop
 returns c =
-    let v = c.before.loop in
+    let v = c.before.loop-left in
     let a = c.before.before.before.args in
     let p : a.at + v.left ≡ a.at = omega arith in
     let q : a.n - v.left ≡ a.n = omega arith in
