@@ -3,7 +3,6 @@ use mathlib.Core.Bool.{Bool, true}
 use Rattle.words.specs.Lists
 use Rattle.words.specs.Bits
 use Rattle.words.specs.Bytes
-use Rattle.model.specs.World
 use Rattle.model.specs.Answers
 use Rattle.model.specs.Capabilities
 use Rattle.model.specs.Shape

@@ -15,7 +15,7 @@ use Rattle.model.specs.World.{World, Endpoint}
 use Rattle.model.specs.Start.{Given, start_refusal}
 use Rattle.model.specs.Sound.{sound, shape, given_of}
 use Rattle.model.specs.Claims.{Arrays, Typed, TypedArguments, of_call, of_start, of_restore}
-use Rattle.model.specs.Calls.{Call, Outcome, Operation, start, start_given, started_world, zero_world, next, step, start_of, restore_of, operate}
+use Rattle.model.specs.Calls.{Call, Outcome, Operation, start_given, started_world, zero_world, next, step, start_of, restore_of, operate}
 use Rattle.model.proofs.Registers.FixedLaws.{length-started}
 use Rattle.model.proofs.Sound.SoundLaws.{Accepts, accepts, SoundEndpoint, is-sound, events_fit, requester-fits}
 use Rattle.model.proofs.Sound.StartLaws.{few-msi, started-sound}

@@ -1,4 +1,5 @@
 // The types of the card model. What they mean is defined in specs/.
+#![tactic(auto)]
 
 // One function: its 256 configuration bytes, its BAR sizes, event count E, requester ID, line and MSI waiting bits.
 // The MSI-X table and the pending array are lent at each call.

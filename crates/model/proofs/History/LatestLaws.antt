@@ -33,10 +33,12 @@ module _ {A : Type 0} (says : A → Option Bool) (resets : A → Bool) (home : B
     -- no entry both says something and resets
     module _ (apart : (x : A) → says x ≡ some y → resets x ≡ false) where
       of-said : (past : List A) → SinceR Said Idle past → latest_bit past ≡ y
+      of-said [] h = elim h [ ]
       of-said (x ∷ past) (inl k) = rw (apart x k, k)
       of-said (x ∷ past) (inr k) = rw (k.0.1, k.0.0) (of-said past k.1)
 
       of-back : home ≡ y → (past : List A) → SinceR Back Silent past → latest_bit past ≡ y
+      of-back e [] h = elim h [ ]
       of-back e (x ∷ past) (inl k) = rw k e
       of-back e (x ∷ past) (inr k) = rw k.0 (cond_elim (λ (b : Bool). b ≡ y) (resets x) (λ _. e) (λ _. of-back e past k.1))
 

@@ -37,6 +37,7 @@ module _ {A : Type 0} where
         go p (y ∷ l) e = s.after (record { later = l; entry = p.entry; before = p.before; whole = tail-eq_of_cons-eq e })
 
     of : (past : List A) → SinceR P Q past → Since P Q past
+    of [] h = elim h [ ]
     of (x ∷ past) (inl p) = since-now p
     of (x ∷ past) (inr r) = since-later r.0 (of past r.1)
 
@@ -75,6 +76,7 @@ module _ {A : Type 0} where
   since_apart {P} {Q} {P'} {Q'} here first second past s s' = go past ((since-iff P Q past).0 s) ((since-iff P' Q' past).0 s')
     where
       go : (past : List A) → SinceR P Q past → SinceR P' Q' past → ⊥
+      go [] h h' = elim h [ ]
       go (x ∷ past) (inl p) (inl p') = here x past p p'
       go (x ∷ past) (inl p) (inr r') = first x past p r'.0
       go (x ∷ past) (inr r) (inl p') = second x past r.0 p'
@@ -86,5 +88,6 @@ module _ {A : Type 0} where
   since_same {P} {Q} {Q'} E f past e s = (since-iff P Q' past).1 (go past e ((since-iff P Q past).0 s))
     where
       go : (past : List A) → Every E past → SinceR P Q past → SinceR P Q' past
+      go [] e h = elim h [ ]
       go (x ∷ past) e (inl p) = inl p
       go (x ∷ past) e (inr r) = inr (f x past (every-head E e) r.0, go past (every-tail E e) r.1)

@@ -19,9 +19,9 @@ entry-writable q i = let e : (16 * q + i) % 16 ≡ i % 16 = omega arith in rw e
 
 -- e holds the 16 bytes of entry v of table t
 module _ (e t : List ℕ) (v : ℕ) (same : (i : ℕ) → i < 16 → byte e i ≡ byte t (16 * v + i)) where
-  pub entry_masked : (s : Shape) (c : List ℕ) → bit_at e 12 0 ≡ masked Msix s (record { config = c; table = t }) v
+  pub entry_masked_lem : (s : Shape) (c : List ℕ) → bit_at e 12 0 ≡ masked Msix s (record { config = c; table = t }) v
   unfolding masked bit_at entry_masked
-  entry_masked s c =
+  entry_masked_lem s c =
       let a : 16 * v + 12 ≡ 16 * v + 12 + 0 = omega arith in
       ap (λ (x : ℕ). bit x 0) (same 12 (omega arith) ∙ ap (byte t) a)
 

@@ -1,6 +1,6 @@
 -- Request [3] of document 02, withdrawals: refusals 7 and 2, their order and their borders, the bit of the mechanism in force, and what is said of it.
 -- Assumes nothing.
-use Rattle.std.specs.Prelude.{List, [], ◌∷◌, ◌++◌, ℕ, ◌+◌, ◌-◌, ◌*◌, ◌^◌}
+use Rattle.std.specs.Prelude.{List, [], ◌∷◌, ◌++◌, ℕ, ◌-◌, ◌*◌, ◌^◌}
 use Rattle.model.specs.declared.Answer.TheVariants.{Value, Sent, Held}
 use Rattle.model.specs.Calls.{withdraw}
 use Rattle.model.specs.Play.{Step, lends}
