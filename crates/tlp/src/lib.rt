@@ -1,4 +1,6 @@
 // Transaction packets as bytes: memory writes of one word, and the wire's messages.
+#![tactic(auto)]
+
 pub mod decode; // packets read back
 mod write32; // the bytes of a message with a 32-bit address
 mod write64; // the bytes of a message with a 64-bit address
