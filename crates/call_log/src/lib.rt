@@ -7,7 +7,7 @@ pub mod scan; // bytes taken one by one
 pub mod whole; // a record that stands whole in the bytes
 
 // A call that a log holds.
-#[derive(Drop)]
+#[derive(Clone, Copy)]
 pub enum Record {
     Event(u16),
     Line(bool),
@@ -26,7 +26,7 @@ pub enum Record {
 }
 
 // What a player reads next: mark and version; records; nothing, since its last record is to be tried again; nothing any more.
-#[derive(Drop)]
+#[derive(Clone, Copy)]
 pub enum Stage {
     Header,
     Records,
@@ -35,7 +35,7 @@ pub enum Stage {
 }
 
 // A player: how many bytes of the header or of a record it has taken, those of the record (the rest 0), and how many records were complete.
-#[derive(Drop)]
+#[derive(Clone, Copy)]
 pub struct Player {
     pub stage: Stage,
     pub taken: usize,
@@ -44,7 +44,7 @@ pub struct Player {
 }
 
 // Where the bytes of a call end: before the end of a record; with a whole record; at a wrong byte.
-#[derive(Drop)]
+#[derive(Clone, Copy)]
 pub enum End {
     More,
     Whole,
@@ -52,7 +52,7 @@ pub enum End {
 }
 
 // The bytes of a call, taken: the player after them, how many they are, and where they end.
-#[derive(Drop)]
+#[derive(Clone, Copy)]
 pub struct Scanned {
     pub player: Player,
     pub taken: usize,
@@ -60,7 +60,7 @@ pub struct Scanned {
 }
 
 // A call before it meets the card: the player, how many bytes it took, 0 or 30, and whether the record that the player holds is due.
-#[derive(Drop)]
+#[derive(Clone, Copy)]
 pub struct Advanced {
     pub player: Player,
     pub taken: usize,

@@ -10,7 +10,7 @@ use crate::scan::HEADER;
 use model::Answer;
 
 // What the recorder hands back: 6 or accepted, and how many bytes of the output are new.
-#[derive(Drop)]
+#[derive(Clone, Copy)]
 pub struct Logged {
     pub answer: Answer,
     pub count: usize,

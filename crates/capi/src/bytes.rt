@@ -25,7 +25,7 @@ pub fn unread(bytes: &[u8]) -> u8
 }
 
 // An answer as numbers: the refusal, the value of a read or a withdrawal, and what became of an event; each 0 where there is none.
-#[derive(Drop)]
+#[derive(Clone, Copy)]
 pub struct Numbers {
     pub refusal: u8,
     pub value: u64,

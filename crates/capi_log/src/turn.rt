@@ -15,7 +15,7 @@ use player::Ended;
 use player::perform::perform;
 
 // What a call hands back beside the bytes: how many bytes of the log it took, 0 or 30, and what became of the record.
-#[derive(Drop)]
+#[derive(Clone, Copy)]
 pub struct Turn {
     pub taken: usize,
     pub refusal: u8,

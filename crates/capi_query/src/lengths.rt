@@ -7,7 +7,7 @@ use image::format::Image;
 use snapshot::held::{held_card, is_saved, table_length};
 
 // What is told: zeros beside a refusal.
-#[derive(Drop)]
+#[derive(Clone, Copy)]
 pub struct Lengths {
     pub refusal: u8,
     pub vectors: usize,

@@ -5,7 +5,7 @@ ghost use Rattle.capi_query.specs.Fields.{fields, no_packet, message_fields, wir
 use tlp::decode::{Level, Message, Packet};
 
 // What is told of a packet: 60 and zeros where there is none. Kind 1 is a message, kind 2 a wire packet; what a kind has no use for is 0.
-#[derive(Drop)]
+#[derive(Clone, Copy)]
 pub struct Fields {
     pub refusal: u8,
     pub count: usize,

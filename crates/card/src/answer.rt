@@ -6,7 +6,7 @@ ghost use Rattle.card.specs.Outcomes.{code_of};
 use model::Answer;
 
 // A number for each kind of answer, and the number of a refusal or the value of a read or a withdrawal.
-#[derive(Drop)]
+#[derive(Clone, Copy)]
 pub struct Code {
     pub kind: u8,
     pub detail: u64,

@@ -5,7 +5,7 @@ ghost use Rattle.card.specs.Outcomes.{refused_with, accepted_with};
 use model::{Answer, Card};
 
 // The card after the call, its answer, and how many bytes of the output are new.
-#[derive(Drop)]
+#[derive(Clone, Copy)]
 pub struct Outcome {
     pub card: Card,
     pub answer: Answer,

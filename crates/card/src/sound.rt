@@ -10,7 +10,7 @@ use model::{Mode, Profile};
 use wire::Wiring;
 
 // Whether a card is sound, what its configuration says, and the small state of its wire.
-#[derive(Drop)]
+#[derive(Clone, Copy)]
 pub struct Checked {
     pub sound: bool,
     pub profile: Profile,

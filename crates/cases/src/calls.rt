@@ -84,7 +84,7 @@ fn perform(
 }
 
 // What a call gave, with the output and its length, and the run with the card and the buffers after it.
-#[derive(Drop)]
+#[derive(Clone, Copy)]
 pub struct Called {
     pub run: Run,
     pub outcome: Outcome,

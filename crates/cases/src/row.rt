@@ -8,7 +8,7 @@ use model::Answer;
 use words::parts::part;
 
 // What `table.rt` says of the columns.
-#[derive(Drop)]
+#[derive(Clone, Copy)]
 pub struct Row {
     pub number: u8,
     pub kind: u8,

@@ -6,7 +6,7 @@ ghost use Rattle.cases.specs.Runs.{seen, judged};
 use model::{Card, Function};
 
 // The card, N, the table and pending array in buffers that serve every case, and whether every call so far gave what it should.
-#[derive(Drop)]
+#[derive(Clone, Copy)]
 pub struct Run {
     pub card: Card,
     pub vectors: u8,

@@ -24,7 +24,7 @@ pub const ROW_COUNT: usize = 150;
 // A call should give the answer (done, sent, held, merged, lost, value C, or refused with D) and the bytes at this place, so long.
 // A call that answers done and sends nothing prepares the case, and no verdict is printed on it. Shown after a call: s, the state;
 // v, the state, and the verdict in any case.
-#[derive(Drop)]
+#[derive(Clone, Copy)]
 pub struct Table {
     pub rows: [u8; 45 * ROW_COUNT],
     pub bytes: [u8; 2117],

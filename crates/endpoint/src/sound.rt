@@ -14,7 +14,7 @@ ghost use Rattle.endpoint.specs.Parts.{each_of, Checked};
 use model::{Mode, Profile, Shape};
 
 // Whether a function is sound, and what its configuration says.
-#[derive(Drop)]
+#[derive(Clone, Copy)]
 pub struct Soundness {
     pub sound: bool,
     pub profile: Profile,

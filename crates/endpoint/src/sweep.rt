@@ -14,7 +14,7 @@ ghost use Rattle.endpoint.specs.Sweeps.{Swept};
 use model::{Form, Function, Mode, Profile, Shape};
 
 // MSI's waiting bits after the sending, and how many bytes were sent.
-#[derive(Drop)]
+#[derive(Clone, Copy)]
 pub struct Sent {
     pub waiting: u32,
     pub count: usize,

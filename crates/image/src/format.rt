@@ -3,7 +3,7 @@ ghost use Rattle.std.specs.Prelude.{◌≡◌, ◌^◌, ◌<◌};
 ghost use Rattle.image.specs.Layout.{layout, image_size};
 
 // An image: the lengths of its table and of its pending array, which stand behind the fixed part.
-#[derive(Drop)]
+#[derive(Clone, Copy)]
 pub struct Image {
     pub table: usize,
     pub pending: usize,

@@ -15,7 +15,7 @@ use model::{Answer, Card, Event, Mode, Profile, Vector};
 use vectors::event::{Meant, event_vector};
 
 // What became of an event or a withdrawal: its answer or refusal; how many bytes were sent; and MSI's waiting bits after it.
-#[derive(Drop)]
+#[derive(Clone, Copy)]
 pub struct Fate {
     pub answer: Answer,
     pub count: usize,

@@ -4,14 +4,14 @@ ghost use Rattle.model.specs.Capabilities.{pointer};
 ghost use Rattle.layout.specs.Places.{broken_listing, one_more, first_pointer, listing_of};
 
 // The places of the capabilities with one ID: how many there are, and the first.
-#[derive(Drop)]
+#[derive(Clone, Copy)]
 pub struct Found {
     pub times: usize,
     pub first: usize,
 }
 
 // What the list says of MSI (ID 05h) and of MSI-X (ID 11h). Nothing is found in a broken list.
-#[derive(Drop)]
+#[derive(Clone, Copy)]
 pub struct Listing {
     pub broken: bool,
     pub msi: Found,

@@ -5,7 +5,7 @@ ghost use Rattle.model.specs.Shape.{forms, form_of};
 use model::{Form, Shape};
 
 // A row of the table.
-#[derive(Drop)]
+#[derive(Clone, Copy)]
 struct Row {
     message: u8,
     mask: u8,

@@ -13,7 +13,7 @@ use crate::structure::bad_structures;
 use model::{Form, Region, Shape};
 
 // A start's refusal, 0 if there is none, the shape, and the form of MSI.
-#[derive(Drop)]
+#[derive(Clone, Copy)]
 pub struct Checked {
     pub refusal: u8,
     pub shape: Shape,

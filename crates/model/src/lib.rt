@@ -3,7 +3,7 @@
 
 // One function: its 256 configuration bytes, its BAR sizes, event count E, requester ID, line and MSI waiting bits.
 // The MSI-X table and the pending array are lent at each call.
-#[derive(Drop)]
+#[derive(Clone, Copy)]
 pub struct Function {
     pub config: [u8; 256],
     pub sizes: [u32; 6],
@@ -14,14 +14,14 @@ pub struct Function {
 }
 
 // The card: its function, and the wire, which belongs to the card.
-#[derive(Drop)]
+#[derive(Clone, Copy)]
 pub struct Card {
     pub function: Function,
     pub wire: bool,
 }
 
 // The mechanism in force.
-#[derive(Drop)]
+#[derive(Clone, Copy)]
 pub enum Mode {
     Pin,
     Msi,
@@ -30,7 +30,7 @@ pub enum Mode {
 
 // What a call answers: refused with its number; or accepted, with the value of a read, whether a withdrawn bit was set (1 or 0),
 // or the fate of an event.
-#[derive(Drop)]
+#[derive(Clone, Copy)]
 pub enum Answer {
     Refused(u8),
     Done,
@@ -42,7 +42,7 @@ pub enum Answer {
 }
 
 // A row of the table of MSI forms: the offsets of Message Data, Mask Bits and Pending Bits (0 where there are none), and the length.
-#[derive(Drop)]
+#[derive(Clone, Copy)]
 pub struct Form {
     pub message: usize,
     pub mask: usize,
@@ -51,7 +51,7 @@ pub struct Form {
 }
 
 // Where a structure lies in a BAR.
-#[derive(Drop)]
+#[derive(Clone, Copy)]
 pub struct Region {
     pub bar: usize,
     pub at: usize,
@@ -59,7 +59,7 @@ pub struct Region {
 
 // The MSI capability at configuration byte `at`: Multiple Message Capable, 64-bit addresses, per-vector masks, extended message data.
 // All zero where there is none.
-#[derive(Drop)]
+#[derive(Clone, Copy)]
 pub struct MsiShape {
     pub at: usize,
     pub capable: usize,
@@ -69,7 +69,7 @@ pub struct MsiShape {
 }
 
 // The MSI-X capability at configuration byte `at`: N, the table and the pending array. All zero where there is none.
-#[derive(Drop)]
+#[derive(Clone, Copy)]
 pub struct MsixShape {
     pub at: usize,
     pub vectors: usize,
@@ -78,14 +78,14 @@ pub struct MsixShape {
 }
 
 // What the configuration says of both, and no write changes.
-#[derive(Drop)]
+#[derive(Clone, Copy)]
 pub struct Shape {
     pub msi: MsiShape,
     pub msix: MsixShape,
 }
 
 // What the configuration says at a time: its shape, the form of its MSI, and the mechanism in force.
-#[derive(Drop)]
+#[derive(Clone, Copy)]
 pub struct Profile {
     pub shape: Shape,
     pub form: Form,
@@ -93,8 +93,8 @@ pub struct Profile {
 }
 
 // An event number is not a vector number.
-#[derive(Drop)]
+#[derive(Clone, Copy)]
 pub struct Event(pub u16);
 
-#[derive(Drop)]
+#[derive(Clone, Copy)]
 pub struct Vector(pub u16);

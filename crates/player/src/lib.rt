@@ -4,7 +4,7 @@ pub mod perform; // the call that a record is: all that meets the card
 use model::Answer;
 
 // What became of the record of a player's call: none was made, or it was answered.
-#[derive(Drop)]
+#[derive(Clone, Copy)]
 pub enum Ended {
     Nothing,
     With(Answer),

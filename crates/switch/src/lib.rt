@@ -7,13 +7,13 @@ pub mod packet; // the call: a packet from a port
 pub mod state; // the wires that a switch keeps
 
 // The wires of a port, by the card's pins 1 to 4.
-#[derive(Drop)]
+#[derive(Clone, Copy)]
 pub struct Port {
     pub wires: [bool; 4],
 }
 
 // The ports 0 to 7 and the requester ID.
-#[derive(Drop)]
+#[derive(Clone, Copy)]
 pub struct Switch {
     pub ports: [Port; 8],
     pub requester: u16,

@@ -6,7 +6,7 @@ use crate::Switch;
 use model::Answer;
 
 // The switch after the call, its answer, and how many bytes of the output are new.
-#[derive(Drop)]
+#[derive(Clone, Copy)]
 pub struct Outcome {
     pub switch: Switch,
     pub answer: Answer,

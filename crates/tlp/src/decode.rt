@@ -3,7 +3,7 @@ ghost use Rattle.std.specs.Prelude.{◌≤◌, ◌≡◌, length};
 ghost use Rattle.tlp.specs.Decoded.{as_message, as_wire, decoded_wire, decoded, first_length};
 
 // A memory write of one word.
-#[derive(Drop)]
+#[derive(Clone, Copy)]
 pub struct Message {
     pub requester: u16,
     pub upper: u32,
@@ -12,14 +12,14 @@ pub struct Message {
 }
 
 // Assert_INTx or Deassert_INTx.
-#[derive(Drop)]
+#[derive(Clone, Copy)]
 pub struct Level {
     pub requester: u16,
     pub pin: u8,
     pub active: bool,
 }
 
-#[derive(Drop)]
+#[derive(Clone, Copy)]
 pub enum Packet {
     Message(Message),
     Wire(Level),

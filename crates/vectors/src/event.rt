@@ -8,7 +8,7 @@ ghost use Rattle.vectors.specs.Mapping.{vector_in};
 use crate::granted::granted;
 use model::{Event, Mode, Shape, Vector};
 
-#[derive(Drop)]
+#[derive(Clone, Copy)]
 pub enum Meant {
     Nothing,
     One(Vector),

@@ -15,7 +15,7 @@ use crate::mode::msi_control_bit;
 use model::{Form, Mode, Profile, Shape, Vector};
 
 // A memory write of one word.
-#[derive(Drop)]
+#[derive(Clone, Copy)]
 pub struct Message {
     pub upper: u32,
     pub address: u32,

@@ -6,7 +6,7 @@ ghost use Rattle.wire.specs.Wires.{due_of, with_level, with_line, with_mode, siz
 use model::Mode;
 
 // The line, the wire, the mechanism in force, the pin number and Command bit 10.
-#[derive(Drop)]
+#[derive(Clone, Copy)]
 pub struct Wiring {
     pub line: bool,
     pub wire: bool,
@@ -16,7 +16,7 @@ pub struct Wiring {
 }
 
 // The packet owed.
-#[derive(Drop)]
+#[derive(Clone, Copy)]
 pub enum Owed {
     Nothing,
     Assert,
@@ -24,7 +24,7 @@ pub enum Owed {
 }
 
 // The state with the packet owed.
-#[derive(Drop)]
+#[derive(Clone, Copy)]
 pub struct Wired {
     pub wiring: Wiring,
     pub owed: Owed,
