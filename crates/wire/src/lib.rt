@@ -1,4 +1,6 @@
 // The wire: the small state that decides its level, and the packet that a change of it owes.
+#![tactic(auto)]
+
 ghost use Rattle.std.specs.Prelude.{◌≡◌, ◌≤◌, length};
 ghost use Rattle.words.specs.Writers.{Wrote};
 ghost use Rattle.wire.specs.Wires.{due_of, with_level, with_line, with_mode, size_of, bytes_owed};
