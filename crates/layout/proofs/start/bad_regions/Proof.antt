@@ -6,63 +6,54 @@ use borrow.Author.Rules.{rules}
 use Rattle.layout.proofs.start.bad_regions.Statement.{statement}
 use Rattle.layout.proofs.start.bad_regions.Tie as tie
 
-returns : tie.Need-returns
+returns : tie.Need-returns-then-s-eq0
 unfolding bad_regions
-returns c = rw (msix_absent c.before.before.args.s c.if1.true)
+returns c = rw (msix_absent c.args.s c.if-s-eq0.true)
 
 -- both lengths are known
-module _ (c : tie.After-pending-bytes) where
-  abbrev at-if1 : tie.Else1
-  at-if1 = let at-table-bytes = c.before in at-table-bytes.before.before.before
+module _ (c : tie.After-pending_bytes-m) where
+  abbrev at-if1 : tie.Else-s-eq0
+  at-if1 = c.before.before.before.before
 
   abbrev start : tie.Start
-  start = at-if1.before.before
+  start = c.before.before.before.before.before.before
 
-returns-2 : tie.Need-returns-2
+returns-2 : tie.Need-returns-then-outside
 returns-2 c =
-    let at-lengths = c.before.before in
-    let a = (start at-lengths).args in
-    region_1 a.sizes.now a.s at-lengths.before.table-bytes.result at-lengths.pending-bytes.result
-    at-lengths.before.table-bytes.ensures.0 at-lengths.pending-bytes.ensures.0 (at-if1 at-lengths).if1.false
-    (sym c.before.outside.ensures ∙ c.if2.true)
+    let a = c.args in
+    region_1 a.sizes.now a.s c.table_bytes-n.result c.pending_bytes-m.result
+    c.table_bytes-n.ensures.0 c.pending_bytes-m.ensures.0 c.if-s-eq0.false
+    (sym c.outside.ensures ∙ c.if-outside.true)
 
-returns-3 : tie.Need-returns-3
+returns-3 : tie.Need-returns-then-outside-2
 returns-3 c =
-    let at-if2 = c.before.before in
-    let at-lengths = at-if2.before.before in
-    let a = (start at-lengths).args in
-    region_2 a.sizes.now a.s at-lengths.before.table-bytes.result at-lengths.pending-bytes.result
-    at-lengths.before.table-bytes.ensures.0 at-lengths.pending-bytes.ensures.0 (at-if1 at-lengths).if1.false
-    (sym at-if2.before.outside.ensures ∙ at-if2.if2.false)
-    (sym c.before.outside2.ensures ∙ c.if3.true)
+    let a = c.args in
+    region_2 a.sizes.now a.s c.table_bytes-n.result c.pending_bytes-m.result
+    c.table_bytes-n.ensures.0 c.pending_bytes-m.ensures.0 c.if-s-eq0.false
+    (sym c.outside.ensures ∙ c.if-outside.false)
+    (sym c.outside-2.ensures ∙ c.if-outside-2.true)
 
-returns-4 : tie.Need-returns-4
+returns-4 : tie.Need-returns-then-table-pending
 returns-4 c =
-    let at-if3 = c.before.before.before in
-    let at-if2 = at-if3.before.before in
-    let at-lengths = at-if2.before.before in
-    let a = (start at-lengths).args in
-    region_3 a.sizes.now a.s at-lengths.before.table-bytes.result at-lengths.pending-bytes.result
-    at-lengths.before.table-bytes.ensures.0 at-lengths.pending-bytes.ensures.0 (at-if1 at-lengths).if1.false
-    (sym at-if2.before.outside.ensures ∙ at-if2.if2.false)
-    (sym at-if3.before.outside2.ensures ∙ at-if3.if3.false)
-    c.if4.true
+    let a = c.args in
+    region_3 a.sizes.now a.s c.table_bytes-n.result c.pending_bytes-m.result
+    c.table_bytes-n.ensures.0 c.pending_bytes-m.ensures.0 c.if-s-eq0.false
+    (sym c.outside.ensures ∙ c.if-outside.false)
+    (sym c.outside-2.ensures ∙ c.if-outside-2.false)
+    c.if-table-pending.true
 
-returns-5 : tie.Need-returns-5
+returns-5 : tie.Need-returns
 returns-5 c =
-    let at-if3 = c.before.before.before.before in
-    let at-if2 = at-if3.before.before in
-    let at-lengths = at-if2.before.before in
-    let a = (start at-lengths).args in
+    let a = c.args in
     c.overlap.ensures
-    ∙ region_4 a.sizes.now a.s at-lengths.before.table-bytes.result at-lengths.pending-bytes.result
-    at-lengths.before.table-bytes.ensures.0 at-lengths.pending-bytes.ensures.0 (at-if1 at-lengths).if1.false
-    (sym at-if2.before.outside.ensures ∙ at-if2.if2.false)
-    (sym at-if3.before.outside2.ensures ∙ at-if3.if3.false)
-    c.before.if4.false
+    ∙ region_4 a.sizes.now a.s c.table_bytes-n.result c.pending_bytes-m.result
+    c.table_bytes-n.ensures.0 c.pending_bytes-m.ensures.0 c.if-s-eq0.false
+    (sym c.outside.ensures ∙ c.if-outside.false)
+    (sym c.outside-2.ensures ∙ c.if-outside-2.false)
+    c.if-table-pending.false
 
-pub bad-regions-spec : {M : Type 1} → statement M
-bad-regions-spec =
+pub bad_regions_spec : {M : Type 1} → statement M
+bad_regions_spec =
     tie.close
     (tie.spec
     returns

@@ -18,41 +18,33 @@ size_is c = ap (λ (f : Form). f.size) c.requires.2
 size_fits : (c : tie.Start) → c.args.f.size < 256
 size_fits c = omega (arith, size_is c, size_small c.args.s)
 
-bad-msi-requires : tie.Need-bad-msi-requires
+bad-msi-requires : tie.Need-bad_msi-requires
 bad-msi-requires c κs = (c.requires.0, c.requires.1, size_fits c)
 
-returns : tie.Need-returns
+returns : tie.Need-returns-then-bad_msi
 returns c =
-    let start = c.before.before in
-    let a = start.args in
-    part_1 (listed (capabilities a.c.now)) a.s a.f.size (size_is start) (sym c.before.bad-msi.ensures ∙ c.if1.true)
+    let a = c.args in
+    part_1 (listed (capabilities a.c.now)) a.s a.f.size (size_is c.before.before) (sym c.bad_msi.ensures ∙ c.if-bad_msi.true)
 
-returns-2 : tie.Need-returns-2
+returns-2 : tie.Need-returns-then-bad_msix
 returns-2 c =
-    let at-bad-msix = c.before in
-    let at-if1 = at-bad-msix.before in
-    let start = at-if1.before.before in
-    let a = start.args in
-    part_2 (listed (capabilities a.c.now)) a.s a.f.size (size_is start) (sym at-if1.before.bad-msi.ensures ∙ at-if1.if1.false)
-    (sym at-bad-msix.bad-msix.ensures ∙ c.if2.true)
+    let a = c.args in
+    part_2 (listed (capabilities a.c.now)) a.s a.f.size (size_is c.before.before.before.before) (sym c.bad_msi.ensures ∙ c.if-bad_msi.false)
+    (sym c.bad_msix.ensures ∙ c.if-bad_msix.true)
 
-bad-pair-requires : tie.Need-bad-pair-requires
+bad-pair-requires : tie.Need-bad_pair-requires
 bad-pair-requires c κs =
-    let start = c.before.before.before.before in
-    (start.requires.1, size_fits start)
+    (c.requires.1, size_fits c.before.before.before.before)
 
-returns-3 : tie.Need-returns-3
+returns-3 : tie.Need-returns
 returns-3 c =
-    let at-if2 = c.before in
-    let at-if1 = at-if2.before.before in
-    let start = at-if1.before.before in
-    let a = start.args in
-    c.bad-pair.ensures
-    ∙ part_3 (listed (capabilities a.c.now)) a.s a.f.size (size_is start) (sym at-if1.before.bad-msi.ensures ∙ at-if1.if1.false)
-    (sym at-if2.before.bad-msix.ensures ∙ at-if2.if2.false)
+    let a = c.args in
+    c.bad_pair.ensures
+    ∙ part_3 (listed (capabilities a.c.now)) a.s a.f.size (size_is c.before.before.before.before.before) (sym c.bad_msi.ensures ∙ c.if-bad_msi.false)
+    (sym c.bad_msix.ensures ∙ c.if-bad_msix.false)
 
-pub bad-structures-spec : {M : Type 1} → statement M
-bad-structures-spec =
+pub bad_structures_spec : {M : Type 1} → statement M
+bad_structures_spec =
     tie.close
     (tie.spec
     bad-msi-requires

@@ -4,7 +4,6 @@ use mathlib.Core.Bool.{Bool, true, false}
 use mathlib.Core.List.{List, [], ◌∷◌, map}
 use Prim.Native.Nat.{ℕ, ◌+◌, ◌*◌, ◌≤◌, ◌<◌}
 use native.Mathlib.Omega.{arith}
-use borrow.Author.Rules.{rules}
 use lib.ListN.{get_or}
 use mir.Val.{bool_byte}
 use Rattle.words.specs.Lists.{count}
@@ -14,8 +13,7 @@ use Rattle.words.proofs.ListLaws.{map-count}
 use Rattle.model.specs.Shape.{row, forms}
 use Rattle.model.specs.declared.Form.{Form}
 use Rattle.layout.specs.declared.form.Row.{Row}
-use Rattle.layout.proofs.form.form_row.Statement.{statement}
-use Rattle.layout.proofs.form.form_row.Tie as tie
+use Rattle.layout.proofs.form.form_row.Goals as goal
 
 -- a row of the table holds a form
 abbrev row_of : Form → Row
@@ -59,34 +57,20 @@ size_at true true = omega arith
 row_small : (wide masks : Bool) (d : Row) → (get_or table (bool_byte wide + 2 * bool_byte masks) d).size ≤ 24
 row_small wide masks d = omega (arith, ap (λ (f : Form). f.size) (at wide masks d), size_at masks wide)
 
-mul-row : tie.Need-overflow-mul-row
-mul-row c = omega (arith, flag_small c.before.before.args.s.msi.wide, flag_small c.before.before.args.s.msi.masks)
+pub overflow_mul-row : goal.overflow_mul-row
+overflow_mul-row c = omega (arith, flag_small c.args.s.msi.wide, flag_small c.args.s.msi.masks)
 
-add_row : tie.Need-overflow-add-row
-add_row c = omega (arith, flag_small c.before.before.args.s.msi.wide, flag_small c.before.before.args.s.msi.masks)
+pub overflow_add-row : goal.overflow_add-row
+overflow_add-row c = omega (arith, flag_small c.args.s.msi.wide, flag_small c.args.s.msi.masks)
 
-mul-row-2 : tie.Need-overflow-mul-row-2
-mul-row-2 c = omega (arith, flag_small c.before.before.args.s.msi.wide, flag_small c.before.before.args.s.msi.masks)
+pub offset_bounds-s : goal.offset_bounds-s
+offset_bounds-s c = omega (arith, flag_small c.args.s.msi.wide, flag_small c.args.s.msi.masks)
 
-array-copy-out-row : tie.Need-array-copy-out-row
-array-copy-out-row c = omega (arith, flag_small c.before.before.args.s.msi.wide, flag_small c.before.before.args.s.msi.masks)
+pub bounds-s-s : goal.bounds-s-s
+bounds-s-s c = omega (arith, flag_small c.args.s.msi.wide, flag_small c.args.s.msi.masks)
 
-returns : tie.Need-returns
+pub returns : goal.returns
 unfolding table
 returns c =
-    let at_row = c.before.before.before.before in
-    let start = at_row.before.before.before in
-    let m = start.args.s.msi in
+    let m = c.args.s.msi in
     (at m.wide m.masks _, row_small m.wide m.masks _)
-
-pub form-row-spec : {M : Type 1} → statement M
-form-row-spec =
-    tie.close
-    (tie.spec
-    (λ c. search rules) (λ c. search rules)
-    mul-row
-    add_row
-    mul-row-2
-    array-copy-out-row
-    (λ c. search rules) (λ c. search rules) (λ c. search rules) (λ c. search rules)
-    returns)

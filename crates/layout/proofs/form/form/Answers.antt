@@ -2,22 +2,16 @@
 use mathlib.Core.Path.{◌≡◌, ap₂}
 use mathlib.Core.Bool.{not, cond, ◌&&◌}
 use Prim.Native.Nat.{ℕ, ◌+◌}
-use borrow.Author.Rules.{rules}
 use Rattle.model.specs.Shape.{row, forms, form_of}
 use Rattle.model.specs.declared.Form.{Form}
 use Rattle.model.specs.declared.Shape.{Shape}
-use Rattle.layout.proofs.form.form.Statement.{statement}
-use Rattle.layout.proofs.form.form.Tie as tie
+use Rattle.layout.proofs.form.form.Goals as goal
 
 longer : (s : Shape) (f : Form) (n : ℕ) → f ≡ forms s.msi.masks s.msi.wide → n ≡ cond (s.msi.extended && not s.msi.masks) 2 0
     → row f.message f.mask f.pending (f.size + n) ≡ form_of s
 unfolding form_of
 longer s f n e h = ap₂ (λ (f : Form) (n : ℕ). row f.message f.mask f.pending (f.size + n)) e h
 
-returns : tie.Need-returns
+pub returns : goal.returns
 returns c =
-    let at_row = c.before.before in
-    longer at_row.before.args.s at_row.form-row.result c.before.upper-data.result at_row.form-row.ensures.0 c.before.upper-data.ensures.0
-
-pub form-spec : {M : Type 1} → statement M
-form-spec = tie.close (tie.spec (λ c κs. search rules) (λ c κs. search rules) (λ c. search rules) returns)
+    longer c.args.s c.form_row-f.result c.upper_data.result c.form_row-f.ensures.0 c.upper_data.ensures.0
