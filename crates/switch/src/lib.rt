@@ -1,4 +1,6 @@
 // A switch between up to eight cards and the host. What its types mean is defined in specs/.
+#![tactic(auto)]
+
 pub mod change; // the wire packets of changed upstream wires
 pub mod down; // the call: a port goes down
 pub mod join; // the wires of the ports, mapped and joined into four upstream wires

@@ -12,44 +12,37 @@ use Rattle.switch.proofs.change.send_changes.Statement.{statement}
 use Rattle.switch.proofs.change.send_changes.Tie as tie
 
 -- the size is known
-module _ (c : tie.After-changes-size) where
-  abbrev at_before : tie.After-upstream
+module _ (c : tie.After-changes_size) where
+  abbrev at_before : tie.After-upstream-before
   at_before = c.before.before
 
   abbrev start : tie.Start
-  start = at_before.before.before
+  start = c.before.before.before.before
 
   abbrev owed : List ℕ
-  owed = let a = start.args in changes a.s.requester (upstream a.s) (upstream a.next)
+  owed = let a = c.args in changes a.s.requester (upstream a.s) (upstream a.next)
 
-  joined : changes start.args.s.requester (wire_of at_before.upstream.result) (wire_of c.before.upstream2.result) ≡ owed
-  joined = joined_changes _ start.args.s start.args.next _ _ at_before.upstream.ensures c.before.upstream2.ensures
+  joined : changes c.args.s.requester (wire_of c.upstream-before.result) (wire_of c.upstream-after.result) ≡ owed
+  joined = joined_changes _ c.args.s c.args.next _ _ c.upstream-before.ensures c.upstream-after.ensures
 
-  size : c.changes-size.result ≡ length owed
-  size = c.changes-size.ensures start.args.s.requester ∙ ap length joined
+  size : c.changes_size.result ≡ length owed
+  size = c.changes_size.ensures c.args.s.requester ∙ ap length joined
 
-returns : tie.Need-returns
+returns : tie.Need-returns-then-out-changes_size
 returns c =
-    let at-if1 = c.before in
-    let sized = at-if1.before in
-    room-short _ (start sized).args.next (owed sized) _ _ (omega (arith, at-if1.if1.true, size sized)) c.refused.ensures
+    room-short _ c.args.next (owed c.before.before) _ _ (omega (arith, c.if-out-changes_size.true, size c.before.before)) c.refused.ensures
 
-put-changes-requires : tie.Need-put-changes-requires
+put-changes-requires : tie.Need-put_changes-count-requires
 put-changes-requires c κs =
-    let at-if1 = c.before in
-    let sized = at-if1.before in
-    omega (arith, at-if1.if1.false, sized.changes-size.ensures (start sized).args.s.requester)
+    omega (arith, c.if-out-changes_size.false, c.changes_size.ensures c.args.s.requester)
 
-returns-2 : tie.Need-returns-2
+returns-2 : tie.Need-returns
 returns-2 c =
-    let at-put-changes = c.before.before.before in
-    let at-if1 = at-put-changes.before.before in
-    let sized = at-if1.before in
-    room-done _ (start sized).args.next (owed sized) _ _ _ _ (omega (arith, at-if1.if1.false, size sized))
-    (rw (joined sized) at at-put-changes.put-changes.ensures) c.accepted.ensures
+    room-done _ c.args.next (owed c.before.before.before.before.before.before) _ _ _ _ (omega (arith, c.if-out-changes_size.false, size c.before.before.before.before.before.before))
+    (rw (joined c.before.before.before.before.before.before) at c.put_changes-count.ensures) c.accepted.ensures
 
-pub send-changes-spec : {M : Type 1} → statement M
-send-changes-spec =
+pub send_changes_spec : {M : Type 1} → statement M
+send_changes_spec =
     tie.close
     (tie.spec
     (λ c κs. search rules) (λ c κs. search rules) (λ c κs. search rules) (λ c κs. search rules)
