@@ -23,71 +23,66 @@ config_known : (s : tie.Start) → length s.args.card.function.config ≡ 256
 config_known s = search rules
 
 -- numbers and sizes are written
-module _ (c : tie.After-slice-known3) where
-  abbrev at-put-sizes : tie.After-put-sizes
+module _ (c : tie.After-slice_known-3-1) where
+  abbrev at-put-sizes : tie.After-put_sizes
   at-put-sizes = c.before.before
 
-  abbrev at-put-slice : tie.After-put-slice
-  at-put-slice = let at-known = at-put-sizes.before.before in at-known.before.before
+  abbrev at-put-slice : tie.After-put_slice-a
+  at-put-slice = c.before.before.before.before.before.before
 
-  abbrev at-numbers : tie.After-numbers
-  at-numbers = let at-config = at-put-slice.before.before.before in at-config.before.before
+  abbrev at-numbers : tie.After-numbers-numbers
+  at-numbers = c.before.before.before.before.before.before.before.before.before.before.before
 
   abbrev start : tie.Start
-  start = at-numbers.before.before
+  start = c.before.before.before.before.before.before.before.before.before.before.before.before.before
 
   -- the output with both
   abbrev out₂ : List ℕ
-  out₂ = let k = at-put-slice.put-slice in put_mid k.result (length k.last.0 - k.result) k.last.0 at-put-sizes.put-sizes.last.0
+  out₂ = let k = c.put_slice-a in put_mid k.result (length k.new.out - k.result) k.new.out c.put_sizes.new.out
 
-  nine : at-put-slice.put-slice.result ≡ 9
-  nine = at-put-slice.put-slice.ensures.count ∙ ap length at-numbers.numbers.ensures ∙ number-length start.args.card
+  nine : c.put_slice-a.result ≡ 9
+  nine = c.put_slice-a.ensures.count ∙ ap length c.numbers-numbers.ensures ∙ number-length c.args.card
 
-  twenty_four : at-put-sizes.put-sizes.result ≡ 24
-  twenty_four = at-put-sizes.put-sizes.ensures.count ∙ sizes-length start.args.card.function.sizes (sizes_known start)
+  twenty_four : c.put_sizes.result ≡ 24
+  twenty_four = c.put_sizes.ensures.count ∙ sizes-length c.args.card.function.sizes (sizes_known c.before.before.before.before.before.before.before.before.before.before.before.before.before)
 
   -- there is room for the configuration
-  room : at-put-slice.put-slice.result + at-put-sizes.put-sizes.result + 256 ≤ length out₂
-  room = omega (arith, nine, twenty_four, c.before.out2.given.1 ∙ at-put-slice.put-slice.kept.0, start.pre)
+  room : c.put_slice-a.result + c.put_sizes.result + 256 ≤ length out₂
+  room = omega (arith, nine, twenty_four, c.out-2-1.given.1 ∙ c.put_slice-a.auto.out, c.requires)
 
-add-b : tie.Need-overflow-add-b
+add-b : tie.Need-overflow_add-b
 add-b c = omega (arith, nine c, twenty_four c)
 
-sub-put-slice : tie.Need-overflow-sub-put-slice
+sub-put-slice : tie.Need-slice_bounds-put_slice-count
 sub-put-slice c = omega (arith, room c)
 
-part-put-slice-start : tie.Need-slice-bounds-put-slice-start
+part-put-slice-start : tie.Need-slice_bounds-put_slice-start
 part-put-slice-start c = omega (arith, room c)
 
-put-slice-requires-2 : tie.Need-put-slice-requires-2
+put-slice-requires-2 : tie.Need-put_slice-requires
 put-slice-requires-2 c κs =
-    let written = c.before.before in
-    simp (length-take, length-drop) (omega (arith, room written, config_known (start written)))
+    simp (length-take, length-drop) (omega (arith, room c.before.before, config_known (start c.before.before)))
 
-add-result : tie.Need-overflow-add-result
+add-result : tie.Need-overflow_add-result
 add-result c =
-    let at-put-slice2 = c.before.before in
-    let written = at-put-slice2.before.before.before in
-    omega (arith, nine written, twenty_four written, config_known (start written), at-put-slice2.put-slice2.ensures.count)
+    omega (arith, nine c.before.before.before.before.before, twenty_four c.before.before.before.before.before, config_known (start c.before.before.before.before.before), c.put_slice.ensures.count)
 
 returns : tie.Need-returns
 returns c =
-    let at-put-slice2 = c.before.before in
-    let written = at-put-slice2.before.before.before in
-    let a = (start written).args in
+    let a = c.args in
     let o = a.out.now in
     let numbers = number_bytes a.card in
     let sizes = join (bytes_of 4) a.card.function.sizes in
-    let k₁ = (at-put-slice written).put-slice in
-    let k₂ = (at-put-sizes written).put-sizes in
-    let k₃ = at-put-slice2.put-slice2 in
-    let one = subst (λ (l : List ℕ). Wrote l o k₁.result k₁.last.0) (at-numbers written).numbers.ensures k₁.ensures in
-    let two = behind numbers sizes o k₁.last.0 k₂.last.0 k₁.result k₂.result one k₂.ensures in
+    let k₁ = c.put_slice-a in
+    let k₂ = c.put_sizes in
+    let k₃ = c.put_slice in
+    let one = subst (λ (l : List ℕ). Wrote l o k₁.result k₁.new.out) c.numbers-numbers.ensures k₁.ensures in
+    let two = behind numbers sizes o k₁.new.out k₂.new.out k₁.result k₂.result one k₂.ensures in
     rw (card_parts a.card [] [])
-    (behind (numbers ++ sizes) a.card.function.config o (out₂ written) k₃.new.0 (k₁.result + k₂.result) k₃.result two k₃.ensures)
+    (behind (numbers ++ sizes) a.card.function.config o (out₂ c.before.before.before.before.before) k₃.new.out (k₁.result + k₂.result) k₃.result two k₃.ensures)
 
-pub put-card-spec : {M : Type 1} → statement M
-put-card-spec =
+pub put_card_spec : {M : Type 1} → statement M
+put_card_spec =
     tie.close
     (tie.spec
     (λ c κs. search rules) (λ c. search rules) (λ c κs. search rules) (λ c. search rules) (λ c. search rules)

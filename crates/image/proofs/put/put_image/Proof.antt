@@ -22,129 +22,123 @@ config_known : (s : tie.Start) → length s.args.card.function.config ≡ 256
 config_known s = search rules
 
 -- mark and version are written, and there is room for all that follows
-module _ (c : tie.After-slice-known2) where
-  abbrev at-put-start : tie.After-put-start
+module _ (c : tie.After-slice_known-2-1) where
+  abbrev at-put-start : tie.After-put_start-a
   at-put-start = c.before.before
 
   abbrev start : tie.Start
-  start = let at-args = at-put-start.before.before.before in at-args.before.before
+  start = c.before.before.before.before.before.before.before
 
-  five : at-put-start.put-start.result ≡ 5
-  five = at-put-start.put-start.ensures.count ∙ start-length
+  five : c.put_start-a.result ≡ 5
+  five = c.put_start-a.ensures.count ∙ start-length
 
-  kept : length at-put-start.put-start.last.0 ≡ length start.args.out.now
-  kept = at-put-start.put-start.kept.0
+  kept : length c.put_start-a.new.out ≡ length c.args.out.now
+  kept = c.put_start-a.auto.out
 
-  room : at-put-start.put-start.result + 289 + length start.args.table.now + length start.args.pending.now
-      ≤ length at-put-start.put-start.last.0
-  room = omega (arith, five, kept, start.pre)
+  room : c.put_start-a.result + 289 + length c.args.table.now + length c.args.pending.now
+      ≤ length c.put_start-a.new.out
+  room = omega (arith, five, kept, c.requires)
 
 -- the card is written
-module _ (c : tie.After-slice-known3) where
-  abbrev at-put-card : tie.After-put-card
+module _ (c : tie.After-slice_known-3-1) where
+  abbrev at-put-card : tie.After-put_card
   at-put-card = c.before.before
 
-  abbrev begun : tie.After-slice-known2
-  begun = at-put-card.before.before
+  abbrev begun : tie.After-slice_known-2-1
+  begun = c.before.before.before.before
 
   abbrev at₂ : ℕ
-  at₂ = (at-put-start begun).put-start.result + at-put-card.put-card.result
+  at₂ = c.put_start-a.result + c.put_card.result
 
   abbrev out₂ : List ℕ
-  out₂ = let k = (at-put-start begun).put-start in put_mid k.result (length k.last.0 - k.result) k.last.0 at-put-card.put-card.last.0
+  out₂ = let k = c.put_start-a in put_mid k.result (length k.new.out - k.result) k.new.out c.put_card.new.out
 
-  card-wrote : at-put-card.put-card.result ≡ 289
+  card-wrote : c.put_card.result ≡ 289
   card-wrote =
-      let s = start begun in
-      at-put-card.put-card.ensures.count ∙ card-length s.args.card [] [] (sizes_known s) (config_known s)
+      c.put_card.ensures.count ∙ card-length c.args.card [] [] (sizes_known c.before.before.before.before.before.before.before.before.before.before.before) (config_known c.before.before.before.before.before.before.before.before.before.before.before)
 
-  kept₂ : length out₂ ≡ length (start begun).args.out.now
-  kept₂ = c.before.out2.given.1 ∙ kept begun
+  kept₂ : length out₂ ≡ length c.args.out.now
+  kept₂ = c.out-2-1.given.1 ∙ kept c.before.before.before.before
 
-  room₂ : at₂ + length (start begun).args.table.now + length (start begun).args.pending.now ≤ length out₂
-  room₂ = omega (arith, five begun, card-wrote, kept₂, (start begun).pre)
+  room₂ : at₂ + length c.args.table.now + length c.args.pending.now ≤ length out₂
+  room₂ = omega (arith, five c.before.before.before.before, card-wrote, kept₂, c.requires)
 
 -- the table is written
-module _ (c : tie.After-slice-known4) where
-  abbrev at-put-slice : tie.After-put-slice
+module _ (c : tie.After-slice_known-4-1) where
+  abbrev at-put-slice : tie.After-put_slice
   at-put-slice = c.before.before
 
-  abbrev with-card : tie.After-slice-known3
-  with-card = at-put-slice.before.before
+  abbrev with-card : tie.After-slice_known-3-1
+  with-card = c.before.before.before.before
 
   abbrev out₃ : List ℕ
-  out₃ = let o = out₂ with-card in put_mid (at₂ with-card) (length o - at₂ with-card) o at-put-slice.put-slice.last.0
+  out₃ = let o = out₂ c.before.before.before.before in put_mid (at₂ c.before.before.before.before) (length o - at₂ c.before.before.before.before) o c.put_slice.new.out
 
-  table-wrote : at-put-slice.put-slice.result ≡ length (start (begun with-card)).args.table.now
-  table-wrote = at-put-slice.put-slice.ensures.count
+  table-wrote : c.put_slice.result ≡ length c.args.table.now
+  table-wrote = c.put_slice.ensures.count
 
-  kept₃ : length out₃ ≡ length (start (begun with-card)).args.out.now
-  kept₃ = c.before.out3.given.1 ∙ kept₂ with-card
+  kept₃ : length out₃ ≡ length c.args.out.now
+  kept₃ = c.out-3-1.given.1 ∙ kept₂ c.before.before.before.before
 
-  room₃ : at₂ with-card + at-put-slice.put-slice.result + length (start (begun with-card)).args.pending.now ≤ length out₃
-  room₃ = omega (arith, room₂ with-card, kept₂ with-card, table-wrote, kept₃)
+  room₃ : at₂ c.before.before.before.before + c.put_slice.result + length c.args.pending.now ≤ length out₃
+  room₃ = omega (arith, room₂ c.before.before.before.before, kept₂ c.before.before.before.before, table-wrote, kept₃)
 
-sub-put-card : tie.Need-overflow-sub-put-card
+sub-put-card : tie.Need-slice_bounds-put_card-count
 sub-put-card c = omega (arith, room c)
 
-part-put-card-start : tie.Need-slice-bounds-put-card-start
+part-put-card-start : tie.Need-slice_bounds-put_card-start
 part-put-card-start c = omega (arith, room c)
 
-put-card-requires : tie.Need-put-card-requires
+put-card-requires : tie.Need-put_card-requires
 put-card-requires c κs = simp (length-take, length-drop) (omega (arith, room c.before))
 
-add-b : tie.Need-overflow-add-b
+add-b : tie.Need-overflow_add-b
 add-b c = omega (arith, five (begun c), card-wrote c)
 
-sub-put-slice : tie.Need-overflow-sub-put-slice
+sub-put-slice : tie.Need-slice_bounds-put_slice-count
 sub-put-slice c = omega (arith, room₂ c)
 
-part-put-slice-start : tie.Need-slice-bounds-put-slice-start
+part-put-slice-start : tie.Need-slice_bounds-put_slice-start
 part-put-slice-start c = omega (arith, room₂ c)
 
-put-slice-requires : tie.Need-put-slice-requires
+put-slice-requires : tie.Need-put_slice-requires
 put-slice-requires c κs = simp (length-take, length-drop) (omega (arith, room₂ c.before))
 
-add-c : tie.Need-overflow-add-c
+add-c : tie.Need-overflow_add-c
 add-c c = omega (arith, room₃ c)
 
-sub-put-slice-2 : tie.Need-overflow-sub-put-slice-2
+sub-put-slice-2 : tie.Need-slice_bounds-put_slice-count-2
 sub-put-slice-2 c = omega (arith, room₃ c)
 
-part-put-slice-start-2 : tie.Need-slice-bounds-put-slice-start-2
+part-put-slice-start-2 : tie.Need-slice_bounds-put_slice-start-2
 part-put-slice-start-2 c = omega (arith, room₃ c)
 
-put-slice-requires-2 : tie.Need-put-slice-requires-2
+put-slice-requires-2 : tie.Need-put_slice-requires-2
 put-slice-requires-2 c κs = simp (length-take, length-drop) (omega (arith, room₃ c.before))
 
-add-result : tie.Need-overflow-add-result
+add-result : tie.Need-overflow_add-result
 add-result c =
-    let at-put-slice2 = c.before.before in
-    let with-table = at-put-slice2.before.before in
-    omega (arith, room₃ with-table, kept₃ with-table, (start (begun (with-card with-table))).good, at-put-slice2.put-slice2.ensures.count)
+    omega (arith, room₃ c.before.before.before.before, kept₃ c.before.before.before.before, c.well_formed, c.put_slice-2.ensures.count)
 
 returns : tie.Need-returns
 unfolding image_of
 returns c =
-    let at-put-slice2 = c.before.before in
-    let with-table = at-put-slice2.before.before in
-    let d = with-card with-table in
-    let a = (start (begun d)).args in
+    let a = c.args in
     let o = a.out.now in
     let t = a.table.now in
     let p = a.pending.now in
     let card = card_bytes (world_of a.card [] []) in
-    let k₁ = (at-put-start (begun d)).put-start in
-    let k₂ = (at-put-card d).put-card in
-    let k₃ = (at-put-slice with-table).put-slice in
-    let k₄ = at-put-slice2.put-slice2 in
-    let two = behind (mark ++ bytes_of 2 1) card o k₁.last.0 k₂.last.0 k₁.result k₂.result k₁.ensures k₂.ensures in
-    let three = behind (mark ++ bytes_of 2 1 ++ card) t o (out₂ d) k₃.last.0 (at₂ d) k₃.result two k₃.ensures in
+    let k₁ = c.put_start-a in
+    let k₂ = c.put_card in
+    let k₃ = c.put_slice in
+    let k₄ = c.put_slice-2 in
+    let two = behind (mark ++ bytes_of 2 1) card o k₁.new.out k₂.new.out k₁.result k₂.result k₁.ensures k₂.ensures in
+    let three = behind (mark ++ bytes_of 2 1 ++ card) t o (out₂ c.before.before.before.before.before.before.before.before) k₃.new.out (at₂ c.before.before.before.before.before.before.before.before) k₃.result two k₃.ensures in
     rw (card_alone a.card t p)
-    (behind (mark ++ bytes_of 2 1 ++ card ++ t) p o (out₃ with-table) k₄.new.0 (at₂ d + k₃.result) k₄.result three k₄.ensures)
+    (behind (mark ++ bytes_of 2 1 ++ card ++ t) p o (out₃ c.before.before.before.before) k₄.new.out (at₂ c.before.before.before.before.before.before.before.before + k₃.result) k₄.result three k₄.ensures)
 
-pub put-image-spec : {M : Type 1} → statement M
-put-image-spec =
+pub put_image_spec : {M : Type 1} → statement M
+put_image_spec =
     tie.close
     (tie.spec
     (λ c κs. search rules)

@@ -13,59 +13,57 @@ use borrow.Author.Rules.{rules}
 use Rattle.image.proofs.put.put_sizes.Statement.{statement}
 use Rattle.image.proofs.put.put_sizes.Tie as tie
 
-abbrev invariant-loop : tie.invariant-loop
+abbrev invariant-loop : tie.invariant-loop-i
 invariant-loop out₀ sizes at₀ i₀ out at i =
     (i ≤ 6) × (at ≡ 4 * i) × (length out ≡ length out₀) × (put_at at (join (bytes_of 4) (drop i sizes)) out ≡ over (join (bytes_of 4) sizes) out₀)
 
-abbrev decreases-loop : tie.decreases-loop
+abbrev decreases-loop : tie.decreases-loop-i
 decreases-loop out₀ sizes at₀ i₀ out at i = 6 - i
 
 -- a turn: the size that it writes has four bytes
-module _ (c : tie.After-put-le invariant-loop decreases-loop) where
-  abbrev at-loop : tie.At-loop invariant-loop decreases-loop
+module _ (c : tie.After-put_le-at invariant-loop decreases-loop) where
+  abbrev at-loop : tie.At-loop-i invariant-loop decreases-loop
   at-loop = c.before.before.before
 
   abbrev sizes : List ℕ
-  sizes = at-loop.before.before.args.t2
+  sizes = c.args.sizes
 
-  four : c.put-le.result ≡ 4
-  four = c.put-le.ensures.count ∙ length-bytes_of 4 (byte sizes at-loop.loop.i)
+  four : c.put_le-at.result ≡ 4
+  four = c.put_le-at.ensures.count ∙ length-bytes_of 4 (byte sizes c.loop-i.i)
 
-loop-holds : tie.Need-loop-init invariant-loop decreases-loop
+loop-holds : tie.Need-loop-i-init invariant-loop decreases-loop
 loop-holds c = (omega arith, refl, refl, refl)
 
-put-le-requires : tie.Need-put-le-requires invariant-loop decreases-loop
+put-le-requires : tie.Need-put_le-at-requires invariant-loop decreases-loop
 put-le-requires c κs = simp (length-take, length-drop) (omega arith)
 
-add_at : tie.Need-overflow-add-at invariant-loop decreases-loop
+add_at : tie.Need-overflow_add-at invariant-loop decreases-loop
 add_at c =
-    let at-put-le = c.before.before in
-    omega (arith, (at-loop at-put-le).loop.invariant, four at-put-le)
+    omega (arith, c.loop-i.invariant, four c.before.before)
 
-loop-again : tie.Need-loop-preserved invariant-loop decreases-loop
+loop-again : tie.Need-loop-i-preserved invariant-loop decreases-loop
 loop-again c =
-    let at-put-le = c.before.before in
-    let v = (at-loop at-put-le).loop in
-    let k = at-put-le.put-le in
-    let n : length (sizes at-put-le) ≡ 6 = search rules in (
+    let v = c.loop-i in
+    let k = c.put_le-at in
+    let n : length (sizes c.before.before) ≡ 6 = search rules in (
       omega arith,
-      omega (arith, v.inv, four at-put-le),
-      c.before.out.given.1 ∙ v.inv.2,
-      join-next (bytes_of 4) (sizes at-put-le) v.i v.at v.out _ v.inv.3 k.result k.new.0 (omega (arith, v.inv, n)) (omega (arith, v.inv)) k.ensures,
+      omega (arith, v.invariant, four c.before.before),
+      c.out-1.given.1 ∙ v.invariant.2,
+      join-next (bytes_of 4) (sizes c.before.before) v.i v.at v.out _ v.invariant.3 k.result k.new.out (omega (arith, v.invariant, n)) (omega (arith, v.invariant)) k.ensures,
     )
 
 returns : tie.Need-returns invariant-loop decreases-loop
 returns c =
-    let v = c.before.loop in
-    let sizes = c.before.before.before.args.t2 in
+    let v = c.loop-i in
+    let sizes = c.args.sizes in
     let n : length sizes ≡ 6 = search rules in
     record {
       count = omega (arith, v.invariant, length_join32 sizes, n);
       bytes = join_end (bytes_of 4) sizes v.i v.at v.out _ v.invariant.3 (omega (arith, v.invariant, n));
     }
 
-pub put-sizes-spec : {M : Type 1} → statement M
-put-sizes-spec =
+pub put_sizes_spec : {M : Type 1} → statement M
+put_sizes_spec =
     tie.close
     (tie.spec
     invariant-loop
