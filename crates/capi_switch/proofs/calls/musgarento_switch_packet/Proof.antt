@@ -1,4 +1,5 @@
 -- 60 where the bytes are no switch's; else the packet on the switch that they hold, which is handed back. Assumes nothing.
+use Rattle.std.proofs.lemmas.Bool.{not_from_false, not_from_true}
 use mathlib.Core.Path.{◌≡◌}
 use mathlib.Core.Bool.{true}
 use mathlib.Core.List.{List}
@@ -10,38 +11,31 @@ use Rattle.capi_switch.proofs.calls.musgarento_switch_packet.Statement.{statemen
 use Rattle.capi_switch.proofs.calls.musgarento_switch_packet.Tie as tie
 
 -- the bytes that it is lent
-abbrev lent : tie.After-is-switch → List ℕ
+abbrev lent : tie.After-is_switch → List ℕ
 lent c =
-    let start = c.before.before.before.before.before in
-    start.args.state.now
+    c.args.state.now
 
 -- they are a switch's
-read : (c : tie.Else1) → is_switch (lent c.before) ≡ true
-read c = found _ _ c.before.is-switch.ensures c.if1.false
+read : (c : tie.Else-not-is_switch) → is_switch (lent c.before) ≡ true
+read c = found _ _ c.is_switch.ensures (not_from_true _ c.if-not-is_switch.false)
 
-returns : tie.Need-returns
-returns c = no_switch _ _ _ c.before.is-switch.ensures c.if1.true
+returns : tie.Need-returns-then-not-is_switch
+returns c = no_switch _ _ _ c.is_switch.ensures (not_from_false _ c.if-not-is_switch.true)
 
-switch-of-requires : tie.Need-switch-of-requires
-switch-of-requires c κs = switch-length _ (read c.before)
+switch-of-requires : tie.Need-switch_of-held-requires
+switch-of-requires c κs = switch-length _ (read c)
 
-hand-back-requires : tie.Need-hand-back-requires
+hand-back-requires : tie.Need-hand_back-requires
 hand-back-requires c κs =
-    let at-switch-of = c.before.before.before.before.before in
-    let at-if1 = at-switch-of.before.before in
-    switch-length _ (read at-if1)
+    switch-length _ (read c.before.before.before.before.before.before.before)
 
-returns-2 : tie.Need-returns-2
+returns-2 : tie.Need-returns
 returns-2 c =
-    let at-hand-back = c.before.before in
-    let at_call = at-hand-back.before.before.before.before in
-    let at-switch-of = at_call.before.before in
-    let at-if1 = at-switch-of.before.before in
-    through _ _ _ _ _ _ _ (read at-if1) at-switch-of.switch-of.ensures at_call.pass.ensures at-hand-back.hand-back.ensures.0
-    at-hand-back.hand-back.ensures.1
+    through _ _ _ _ _ _ _ (read c.before.before.before.before.before.before.before.before.before.before) c.switch_of-held.ensures c.pass-outcome.ensures c.hand_back.ensures.0
+    c.hand_back.ensures.1
 
-pub musgarento-switch-packet-spec : {M : Type 1} → statement M
-musgarento-switch-packet-spec =
+pub musgarento_switch_packet_spec : {M : Type 1} → statement M
+musgarento_switch_packet_spec =
     tie.close
     (tie.spec
     (λ c κs. search rules) (λ c. search rules)
