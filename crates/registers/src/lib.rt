@@ -1,4 +1,6 @@
 // The registers of one function: configuration and MSI-X table.
+#![tactic(auto)]
+
 pub mod bar;
 pub mod clean;
 pub mod config;

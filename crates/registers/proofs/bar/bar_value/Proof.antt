@@ -12,76 +12,68 @@ use Rattle.registers.proofs.bar.bar_value.Statement.{statement}
 use Rattle.registers.proofs.bar.bar_value.Tie as tie
 
 -- past the test for the table
-module _ (c : tie.After-in-table) where
+module _ (c : tie.After-in_table) where
   abbrev start : tie.Start
   start = c.before.before.before
 
   abbrev inside : Bool
-  inside = let a = start.args in in_table a.s a.bar a.offset
+  inside = let a = c.args in in_table a.s a.bar a.offset
 
   abbrev buffers : Endpoint
-  buffers = endpoint_of zero_function start.args.table.now start.args.pending.now
+  buffers = endpoint_of zero_function c.args.table.now c.args.pending.now
 
-hit : (c : tie.Then1) → inside c.before ≡ true
-hit c = sym c.before.in-table.ensures ∙ c.if1.true
+hit : (c : tie.Then-in_table) → inside c.before ≡ true
+hit c = sym c.in_table.ensures ∙ c.if-in_table.true
 
-missed : (c : tie.Else1) → inside c.before ≡ false
-missed c = sym c.before.in-table.ensures ∙ c.if1.false
+missed : (c : tie.Else-in_table) → inside c.before ≡ false
+missed c = sym c.in_table.ensures ∙ c.if-in_table.false
 
 -- what is not in the table is in the pending array
-other : (c : tie.Else1) → let a = (start c.before).args in in_pending a.s a.bar a.offset ≡ true
-other c = rw (missed c) at (start c.before).pre.3
+other : (c : tie.Else-in_table) → let a = (start c.before).args in in_pending a.s a.bar a.offset ≡ true
+other c = rw (missed c) at (start c.before).requires.3
 
 -- the access lies whole in its buffer
-in-table : (c : tie.Then1)
+in-table : (c : tie.Then-in_table)
     → let a = (start c.before).args in
     (a.s.msix.table.at ≤ a.offset) × (a.offset - a.s.msix.table.at + a.n ≤ table_bytes a.s)
 in-table c =
-    let s = start c.before in
-    let a = s.args in
-    table-inside a.offset a.n s.pre.2 a.s s.pre.1 a.bar (hit c)
+    let a = c.args in
+    table-inside a.offset a.n c.requires.2 a.s c.requires.1 a.bar (hit c)
 
-in-pending : (c : tie.Else1)
+in-pending : (c : tie.Else-in_table)
     → let a = (start c.before).args in
     (a.s.msix.pending.at ≤ a.offset) × (a.offset - a.s.msix.pending.at + a.n ≤ pending_bytes a.s)
 in-pending c =
-    let s = start c.before in
-    let a = s.args in
-    pending_inside a.offset a.n s.pre.2 a.s s.pre.1 a.bar (other c)
+    let a = c.args in
+    pending_inside a.offset a.n c.requires.2 a.s c.requires.1 a.bar (other c)
 
-sub_read : tie.Need-overflow-sub-read
+sub_read : tie.Need-overflow_sub-at
 sub_read c = (in-table c.before).0
 
 read-requires : tie.Need-read-requires
 read-requires c κs =
-    let s = start c.before.before in
-    (omega (arith, s.pre.2), omega (arith, (in-table c.before).1, s.pre.0.table))
+    (omega (arith, c.requires.2), omega (arith, (in-table c.before).1, c.requires.0.table))
 
-returns : tie.Need-returns
+returns : tie.Need-returns-then-in_table
 returns c =
-    let at-if1 = c.before.before in
-    let s = start at-if1.before in
-    let a = s.args in
-    c.read.ensures ∙ table-value a.offset a.n s.pre.2 a.s s.pre.1 a.bar (buffers at-if1.before) (hit at-if1)
+    let a = c.args in
+    c.read.ensures ∙ table-value a.offset a.n c.requires.2 a.s c.requires.1 a.bar (buffers c.before.before.before) (hit c.before.before)
 
-sub-read-2 : tie.Need-overflow-sub-read-2
+sub-read-2 : tie.Need-overflow_sub-at-2
 sub-read-2 c = (in-pending c.before).0
 
 read-requires-2 : tie.Need-read-requires-2
 read-requires-2 c κs =
-    let s = start c.before.before in
-    (omega (arith, s.pre.2), omega (arith, (in-pending c.before).1, s.pre.0.pending))
+    (omega (arith, c.requires.2), omega (arith, (in-pending c.before).1, c.requires.0.pending))
 
-returns-2 : tie.Need-returns-2
+returns-2 : tie.Need-returns
 returns-2 c =
-    let at-if1 = c.before.before in
-    let s = start at-if1.before in
-    let a = s.args in
-    c.read2.ensures
-    ∙ pending-value a.offset a.n s.pre.2 a.s s.pre.1 a.bar (buffers at-if1.before) (missed at-if1) (other at-if1)
+    let a = c.args in
+    c.read-2.ensures
+    ∙ pending-value a.offset a.n c.requires.2 a.s c.requires.1 a.bar (buffers c.before.before.before) (missed c.before.before) (other c.before.before)
 
-pub bar-value-spec : {M : Type 1} → statement M
-bar-value-spec =
+pub bar_value_spec : {M : Type 1} → statement M
+bar_value_spec =
     tie.close
     (tie.spec
     (λ c κs. search rules)

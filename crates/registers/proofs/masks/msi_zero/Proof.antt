@@ -18,54 +18,50 @@ module _ (c : tie.After-within) where
   abbrev start : tie.Start
   start = c.before.before
 
-  in-mask : c.within.result ≡ true → let a = start.args in (a.f.mask ≤ a.k) × (a.k < a.f.mask + 4)
-  in-mask w = let a = start.args in within-true a.f.mask 4 a.k (sym c.within.ensures ∙ w)
+  in-mask : c.within.result ≡ true → let a = c.args in (a.f.mask ≤ a.k) × (a.k < a.f.mask + 4)
+  in-mask w = let a = c.args in within-true a.f.mask 4 a.k (sym c.within.ensures ∙ w)
 
-returns : tie.Need-returns
+returns : tie.Need-returns-then-k-eq4
 returns c =
-    let a = c.before.before.args in
-    sym (low-zero a.s a.k c.before.if1.true ∙ rw (eq-eqb _ _ c.if2.true))
+    let a = c.args in
+    sym (low-zero a.s a.k c.if-k-lt8.true ∙ rw (eq-eqb _ _ c.if-k-eq4.true))
 
-returns-2 : tie.Need-returns-2
+returns-2 : tie.Need-returns-else-k-eq4
 returns-2 c =
-    let a = c.before.before.args in
-    sym (low-zero a.s a.k c.before.if1.true ∙ rw (ne_eqb _ _ c.if2.false))
+    let a = c.args in
+    sym (low-zero a.s a.k c.if-k-lt8.true ∙ rw (ne_eqb _ _ c.if-k-eq4.false))
 
-sub-mask-byte : tie.Need-overflow-sub-mask-byte
-sub-mask-byte c = (in-mask c.before.before c.before.if3.true).0
+sub-mask-byte : tie.Need-overflow_sub-k
+sub-mask-byte c = (in-mask c.before.before c.if-within.true).0
 
-mask-byte-requires : tie.Need-mask-byte-requires
+mask-byte-requires : tie.Need-mask_byte-requires
 mask-byte-requires c κs =
-    let at-within = c.before.before in
-    let m = in-mask at-within c.before.if3.true in
-    ((start at-within).requires.0, omega arith)
+    let m = in-mask c.before.before c.if-within.true in
+    (c.requires.0, omega arith)
 
-returns-3 : tie.Need-returns-3
+returns-3 : tie.Need-returns-then-within
 unfolding mask_bytes
 returns-3 c =
-    let at-if3 = c.before.before in
-    let at-within = at-if3.before in
-    let a = (start at-within).args in
-    ap (λ (x : ℕ). 0xff - x) c.mask-byte.ensures ∙ clear-ones 8 _ (bytes_of_lt 4 _ (a.k - a.f.mask))
-    ∙ shut_mask a.s a.f (start at-within).requires.1 a.k at-within.before.if1.false (sym at-within.within.ensures ∙ at-if3.if3.true)
+    let a = c.args in
+    ap (λ (x : ℕ). 0xff - x) c.mask_byte.ensures ∙ clear-ones 8 _ (bytes_of_lt 4 _ (a.k - a.f.mask))
+    ∙ shut_mask a.s a.f c.requires.1 a.k c.if-k-lt8.false (sym c.within.ensures ∙ c.if-within.true)
 
 -- behind the Mask register
-module _ (c : tie.After-within2) where
-  last : (b : Bool) → c.within2.result ≡ b → let a = (start c.before.before).args in cond b 0xff 0 ≡ msi_zero a.s a.k
+module _ (c : tie.After-within-2) where
+  last : (b : Bool) → c.within-2.result ≡ b → let a = c.args in cond b 0xff 0 ≡ msi_zero a.s a.k
   last b e =
-      let at-within = c.before.before in
-      let a = (start at-within).args in
-      pending-register a.s a.f (start at-within).requires.1 a.k b at-within.before.if1.false
-      (sym at-within.within.ensures ∙ c.before.if3.false) (sym c.within2.ensures ∙ e)
+      let a = c.args in
+      pending-register a.s a.f c.requires.1 a.k b c.if-k-lt8.false
+      (sym c.within.ensures ∙ c.if-within.false) (sym c.within-2.ensures ∙ e)
 
-returns-4 : tie.Need-returns-4
-returns-4 c = last c.before true c.if4.true
+returns-4 : tie.Need-returns-then-within-2
+returns-4 c = last c.before true c.if-within-2.true
 
-returns-5 : tie.Need-returns-5
-returns-5 c = last c.before false c.if4.false
+returns-5 : tie.Need-returns-else-within-2
+returns-5 c = last c.before false c.if-within-2.false
 
-pub msi-zero-spec : {M : Type 1} → statement M
-msi-zero-spec =
+pub msi_zero_spec : {M : Type 1} → statement M
+msi_zero_spec =
     tie.close
     (tie.spec
     returns

@@ -12,82 +12,62 @@ use borrow.Author.Rules.{rules}
 use Rattle.registers.proofs.start.started_bytes.Statement.{statement}
 use Rattle.registers.proofs.start.started_bytes.Tie as tie
 
-abbrev invariant-loop : tie.invariant-loop
+abbrev invariant-loop : tie.invariant-loop-i
 invariant-loop c s f config₀ i₀ config i = (i ≤ 256) × (length config ≡ 256) × (put_at i (drop i c) config ≡ c)
 
-abbrev decreases-loop : tie.decreases-loop
+abbrev decreases-loop : tie.decreases-loop-i
 decreases-loop c s f config₀ i₀ config i = 256 - i
 
-loop-holds : tie.Need-loop-init invariant-loop decreases-loop
-loop-holds c = (omega arith, refl, over-all c.before.args.c.now _ (omega (arith, c.before.requires.0)))
+loop-holds : tie.Need-loop-i-init invariant-loop decreases-loop
+loop-holds c = (omega arith, refl, over-all c.args.c.now _ (omega (arith, c.requires.0)))
 
-loop-again : tie.Need-loop-preserved invariant-loop decreases-loop
+loop-again : tie.Need-loop-i-preserved invariant-loop decreases-loop
 loop-again c =
-    let at-loop = c.before.before in
-    let start = at-loop.before.before in
-    let v = at-loop.loop in
-    let o = start.args.c.now in
-    let h : v.i < length o = omega (arith, start.requires.0) in
+    let v = c.loop-i in
+    let o = c.args.c.now in
+    let h : v.i < length o = omega (arith, c.requires.0) in
     (omega arith, simp length-set v.invariant.1, copy_next o v.i v.config _ v.invariant.2 h (omega arith))
 
 -- the bytes are copied
-module _ (c : tie.After-loop invariant-loop decreases-loop) where
-  abbrev at-loop : tie.At-loop invariant-loop decreases-loop
+module _ (c : tie.After-loop-i invariant-loop decreases-loop) where
+  abbrev at-loop : tie.At-loop-i invariant-loop decreases-loop
   at-loop = c.before
 
   abbrev start : tie.Start invariant-loop decreases-loop
-  start = at-loop.before.before
+  start = c.before.before.before
 
-fix-command-requires : tie.Need-fix-command-requires invariant-loop decreases-loop
+fix-command-requires : tie.Need-fix_command-requires invariant-loop decreases-loop
 fix-command-requires c κs =
-    let copied = c.before in
-    ((at-loop copied).loop.invariant.1, (start copied).requires.1, (start copied).requires.2)
+    (c.loop-i.invariant.1, c.requires.1, c.requires.2)
 
-fix-line-requires : tie.Need-fix-line-requires invariant-loop decreases-loop
+fix-line-requires : tie.Need-fix_line-requires invariant-loop decreases-loop
 fix-line-requires c κs =
-    let at-fix-command = c.before.before in
-    let copied = at-fix-command.before.before in
-    (search rules, (start copied).requires.1, (start copied).requires.2)
+    (search rules, c.requires.1, c.requires.2)
 
-fix-msi-requires : tie.Need-fix-msi-requires invariant-loop decreases-loop
+fix-msi-requires : tie.Need-fix_msi-requires invariant-loop decreases-loop
 fix-msi-requires c κs =
-    let at-fix-line = c.before.before in
-    let at-fix-command = at-fix-line.before.before.before in
-    let copied = at-fix-command.before.before in
-    (search rules, (start copied).requires.1, (start copied).requires.2)
+    (search rules, c.requires.1, c.requires.2)
 
-fix-part-requires : tie.Need-fix-part-requires invariant-loop decreases-loop
+fix-part-requires : tie.Need-fix_part-requires invariant-loop decreases-loop
 fix-part-requires c κs =
-    let at-part-end = c.before in
-    let at-fix-msi = at-part-end.before.before.before in
-    let at-fix-line = at-fix-msi.before.before.before in
-    let at-fix-command = at-fix-line.before.before.before in
-    let copied = at-fix-command.before.before in
-    (search rules, omega (arith, c.part-end2.ensures), (start copied).requires.1, (start copied).requires.2)
+    (search rules, omega (arith, c.part_end-2.ensures), c.requires.1, c.requires.2)
 
 returns : tie.Need-returns invariant-loop decreases-loop
 returns c =
-    let at-fix-part = c.before in
-    let at-part-end2 = at-fix-part.before in
-    let at-part-end = at-part-end2.before in
-    let at-fix-msi = at-part-end.before.before.before in
-    let at-fix-line = at-fix-msi.before.before.before in
-    let at-fix-command = at-fix-line.before.before.before in
-    let copied = at-fix-command.before.before in
-    let v = (at-loop copied).loop in
-    let s = (start copied).args.s in
-    let o = (start copied).args.c.now in
-    let h : length o ≤ v.i = omega (arith, (start copied).requires.0, copied.loop-test.false) in
-    let same : v.config ≡ o = copy_end o v.i v.config _ v.inv.2 h in
-    let size = ap (λ (f : Form). min (s.msi.at + f.size) 256) (start copied).requires.2 in
-    four_parts s v.config _ _ _ size at-part-end.part-end.ensures at-part-end2.part-end2.ensures v.inv.1 _ _ _ _
-    at-fix-command.fix-command.ensures
-    at-fix-line.fix-line.ensures
-    at-fix-msi.fix-msi.ensures at-fix-part.fix-part.ensures (search rules)
+    let v = c.loop-i in
+    let s = c.args.s in
+    let o = c.args.c.now in
+    let h : length o ≤ v.i = omega (arith, c.requires.0, c.loop-i-test.false) in
+    let same : v.config ≡ o = copy_end o v.i v.config _ v.invariant.2 h in
+    let size = ap (λ (f : Form). min (s.msi.at + f.size) 256) c.requires.2 in
+    four_parts s v.config _ _ _ size c.part_end.ensures c.part_end-2.ensures v.invariant.1 _ _ _ _
+    c.fix_command.ensures
+    c.fix_line.ensures
+    c.fix_msi.ensures c.fix_part.ensures (search rules)
     ∙ ap (started_config s) same
 
-pub started-bytes-spec : {M : Type 1} → statement M
-started-bytes-spec =
+pub started_bytes_spec : {M : Type 1} → statement M
+started_bytes_spec =
     tie.close
     (tie.spec
     invariant-loop

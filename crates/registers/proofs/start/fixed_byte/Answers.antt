@@ -7,19 +7,15 @@ use Rattle.words.specs.Bits.{clear}
 use Rattle.words.proofs.BitLaws.{and-not, clear-le}
 use Rattle.model.specs.Registers.{fixed_byte}
 use borrow.Author.Rules.{rules}
-use Rattle.registers.proofs.start.fixed_byte.Statement.{statement}
-use Rattle.registers.proofs.start.fixed_byte.Tie as tie
+use Rattle.registers.proofs.start.fixed_byte.Goals as goal
 
-returns : tie.Need-returns
+pub returns : goal.returns
 unfolding fixed_byte
 returns c =
-    let b = c.before.before.args.b in
-    let w = c.before.writable.result in
-    let z = c.stored-zero.result in
+    let b = c.args.b in
+    let w = c.writable.result in
+    let z = c.stored_zero.result in
     let h : b < 256 = search rules in
     ap (bit_and (0xff - w)) (and-not 8 z b (search rules) h)
     ∙ and-not 8 w (clear z b) (search rules) (omega (arith, clear-le z b))
-    ∙ ap₂ (λ (m n : ℕ). clear m (clear n b)) c.before.writable.ensures c.stored-zero.ensures
-
-pub fixed-byte-spec : {M : Type 1} → statement M
-fixed-byte-spec = tie.close (tie.spec (λ c κs. search rules) (λ c κs. search rules) returns)
+    ∙ ap₂ (λ (m n : ℕ). clear m (clear n b)) c.writable.ensures c.stored_zero.ensures

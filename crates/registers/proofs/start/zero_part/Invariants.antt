@@ -1,0 +1,14 @@
+-- The bytes before place i are 0. Assumes nothing.
+use mathlib.Core.Path.{◌≡◌}
+use Prim.Native.Nat.{ℕ, ◌-◌, ◌≤◌, max}
+use lib.ListN.{length}
+use Rattle.words.specs.Bytes.{byte}
+use Rattle.registers.specs.Parts.{part_zero}
+use Rattle.registers.proofs.start.zero_part.Given as goal
+
+abbrev pub invariant-loop-i : goal.invariant-loop-i
+invariant-loop-i l =
+    (l.lo ≤ l.i) × (l.i ≤ max l.lo l.hi) × (length l.config ≡ 256) × ((k : ℕ) → byte l.config k ≡ part_zero l.lo l.i l.initial.config k)
+
+abbrev pub decreases-loop-i : goal.decreases-loop-i
+decreases-loop-i l = l.hi - l.i
