@@ -26,7 +26,7 @@ module _ (t : List ℕ) (v : ℕ) (h : 16 * v + 16 ≤ length t) where
 module _ (e t : List ℕ) (v : ℕ) (same : IsEntry e t v) where
   pub entry-mask : (s : Shape) (c : List ℕ) → mask_in e ≡ masked Msix s (regs c t) v
   unfolding mask_in
-  entry-mask s c = EntryLaws.entry_masked e t v same s c
+  entry-mask s c = EntryLaws.entry_masked_lem e t v same s c
 
   -- m is what they say
   module _ (m : Message) (em : m ≡ message_in e) (requester : ℕ) where

@@ -1,4 +1,6 @@
 // Vectors of one function: the mechanism in force, who is open, waiting bits and messages.
+#![tactic(auto)]
+
 pub mod mode; // control bits and the mechanism in force
 pub mod granted; // the vectors that MSI is granted
 pub mod count; // the vectors of a mechanism

@@ -22,43 +22,34 @@ upper_inside : (c : tie.Start) → c.args.s.msi.extended ≡ true → c.args.s.m
 upper_inside c e = rw c.requires.1 (omega (arith, data_inside c.args.s e, c.requires.0))
 
 -- past the test of the control bits
-module _ (c : tie.After-data-extended) where
+module _ (c : tie.After-data_extended) where
   abbrev start : tie.Start
   start = c.before.before.before
 
-add_at : tie.Need-overflow-add-at
+add_at : tie.Need-overflow_add-at
 add_at c = omega (arith, inside c.before.before)
 
 word32-requires : tie.Need-word32-requires
 word32-requires c κs =
-    let at-then = c.before in
-    let at_bits = at-then.before in
-    let a = (start at_bits).args in
-    let e = extended-capable a.s (regs a.c.now []) (sym at-then.if1.true ∙ at_bits.data-extended.ensures []) in
+    let a = c.args in
+    let e = extended-capable a.s (regs a.c.now []) (sym c.if-data_extended.true ∙ c.data_extended.ensures []) in
     let n : length a.c.now ≡ 256 = search rules in
-    omega (arith, upper_inside (start at_bits) e, n)
+    omega (arith, upper_inside (start c.before.before) e, n)
 
-returns : tie.Need-returns
+returns : tie.Need-returns-then-data_extended
 returns c =
-    let at-then = c.before.before in
-    let at_bits = at-then.before in
-    let begin = start at_bits in
-    let a = begin.args in
-    λ t. c.word32.ensures ∙ all_data a.s a.f begin.pre.1 (regs a.c.now t) (sym at-then.if1.true ∙ at_bits.data-extended.ensures t)
+    let a = c.args in
+    λ t. c.word32.ensures ∙ all_data a.s a.f c.requires.1 (regs a.c.now t) (sym c.if-data_extended.true ∙ c.data_extended.ensures t)
 
 word16-requires : tie.Need-word16-requires
 word16-requires c κs =
-    let begin = start c.before.before in
-    let n : length begin.args.c.now ≡ 256 = search rules in
-    omega (arith, inside begin, n)
+    let n : length c.args.c.now ≡ 256 = search rules in
+    omega (arith, inside c.before.before.before.before.before, n)
 
-returns-2 : tie.Need-returns-2
+returns-2 : tie.Need-returns
 returns-2 c =
-    let at-else = c.before.before in
-    let at_bits = at-else.before in
-    let begin = start at_bits in
-    let a = begin.args in
-    λ t. c.word16.ensures ∙ low_data a.s a.f begin.pre.1 (regs a.c.now t) (sym at-else.if1.false ∙ at_bits.data-extended.ensures t)
+    let a = c.args in
+    λ t. c.word16.ensures ∙ low_data a.s a.f c.requires.1 (regs a.c.now t) (sym c.if-data_extended.false ∙ c.data_extended.ensures t)
 
-pub msi-data-spec : {M : Type 1} → statement M
-msi-data-spec = tie.close (tie.spec add_at (λ c κs. search rules) word32-requires returns word16-requires (λ c. search rules) returns-2)
+pub msi_data_spec : {M : Type 1} → statement M
+msi_data_spec = tie.close (tie.spec add_at (λ c κs. search rules) word32-requires returns word16-requires (λ c. search rules) returns-2)

@@ -1,0 +1,10 @@
+-- A shift of 1 is the power of 2. Assumes nothing.
+use Prim.Native.Nat.{◌%◌}
+use native.Mathlib.Omega.{arith}
+use Rattle.words.proofs.LowestLaws.{one_shl}
+use Rattle.words.specs.Bits.{set_bit}
+use Rattle.vectors.proofs.waiting.set_pending.Goals as goal
+
+pub returns : goal.returns
+unfolding set_bit
+returns c = rw (one_shl 8 (c.args.v.0 % 8) (omega arith))
