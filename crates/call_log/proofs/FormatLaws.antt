@@ -1,7 +1,7 @@
 -- One law for each kind of record, and for each way out of the recorder's functions. Assumes nothing.
 use mathlib.Core.Path.{◌≡◌, refl, sym, ap, ◌∙◌}
 use mathlib.Core.Bool.{true, false}
-use mathlib.Core.List.{List, [], ◌∷◌}
+use mathlib.Core.List.{List, []}
 use Prim.Native.Nat.{ℕ, ◌≤◌, ◌<◌}
 use native.Mathlib.Omega.{arith}
 use lib.Dec.{eqb}
@@ -12,9 +12,6 @@ use Rattle.words.specs.Bytes.{byte, word16, word32, word64}
 use Rattle.words.specs.Writers.{Wrote}
 use Rattle.model.specs.declared.Answer.{Answer}
 use Rattle.model.specs.declared.Answer.TheVariants.{Refused, Done, Value, Sent, Held, Merged, Lost}
-use Rattle.model.specs.contracts.Answer.{the_type}
-use types.Run.{OneOf, miss}
-use denote.Enum.Declared.{tag_of}
 use Rattle.model.specs.Answers.{refusal_of}
 use Rattle.call_log.specs.declared.Record.{Record}
 use Rattle.call_log.specs.declared.Record.TheVariants.{Event, Line, ConfigWrite, BarWrite, Reset}
@@ -95,9 +92,9 @@ unfolding refusal_of
 refused-number a n e = rw e
 
 -- one of the other cases
-pub not-refused : (a : Answer) → OneOf (1 ∷ 2 ∷ 3 ∷ 4 ∷ 5 ∷ 6 ∷ []) (tag_of the_type a) → refusal_of a ≡ 6 → ⊥
+pub not-refused : (a : Answer) → ((n : ℕ) → a ≡ Refused n → ⊥) → refusal_of a ≡ 6 → ⊥
 unfolding refusal_of
-not-refused (Refused n) h e = miss (1 ∷ 2 ∷ 3 ∷ 4 ∷ 5 ∷ 6 ∷ []) 0 tt h
+not-refused (Refused n) h e = h n refl
 not-refused Done h e = omega (arith, e)
 not-refused (Value x) h e = omega (arith, e)
 not-refused Sent h e = omega (arith, e)

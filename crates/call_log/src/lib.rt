@@ -1,4 +1,6 @@
 // Logs of calls: their records, a player's state, and the recorder. No card is used here. What the types mean is defined in specs/.
+#![tactic(auto)]
+
 pub mod advance; // what a call of a player takes
 pub mod answer; // what a record's call was answered with
 pub mod format; // the bytes of a record

@@ -18,85 +18,74 @@ part_known : (s : tie.Start) → length s.args.part ≡ 15
 part_known s = search rules
 
 -- nothing of the record is taken yet
-none-taken : (c : tie.Else1) → let a = c.before.before.args in
+none-taken : (c : tie.Else-taken-gt0) → let a = c.before.before.args in
     scan_from a.from (player_of Records 0 a.part a.number) a.log.now ≡ scan_from a.from (player_of Records a.taken a.part a.number) a.log.now
 none-taken c =
     let a = c.before.before.args in
-    ap (λ (t : ℕ). scan_from a.from (player_of Records t a.part a.number) a.log.now) (omega (arith, c.if1.false))
+    ap (λ (t : ℕ). scan_from a.from (player_of Records t a.part a.number) a.log.now) (omega (arith, c.if-taken-gt0.false))
 
-returns-2 : tie.Need-returns-2
+returns-2 : tie.Need-returns-then-from-log
 returns-2 c =
-    let at-if1 = c.before.before in
-    let a = at-if1.before.before.args in
+    let a = c.args in
     c.reading.ensures
-    ∙ sym (from_end a.from (player_of Records 0 a.part a.number) a.log.now (omega (arith, c.before.if2.true)))
-    ∙ none-taken at-if1
+    ∙ sym (from_end a.from (player_of Records 0 a.part a.number) a.log.now (omega (arith, c.if-from-log.true)))
+    ∙ none-taken c.before.before
 
 -- there is a kind byte
-module _ (c : tie.After-size-of) where
-  abbrev at-if1 : tie.Else1
-  at-if1 = let at-if2 = c.before.before in at-if2.before
+module _ (c : tie.After-size_of-size) where
+  abbrev at-if1 : tie.Else-taken-gt0
+  at-if1 = c.before.before.before
 
   abbrev start : tie.Start
-  start = at-if1.before.before
+  start = c.before.before.before.before.before
 
-  inside : start.args.from < length start.args.log.now
-  inside = let at-if2 = c.before.before in omega (arith, start.pre.1, at-if2.if2.false)
+  inside : c.args.from < length c.args.log.now
+  inside = omega (arith, c.requires.1, c.if-from-log.false)
 
   abbrev kind : ℕ
-  kind = byte start.args.log.now start.args.from
+  kind = byte c.args.log.now c.args.from
 
   -- its size, read off the part that holds it
-  sized : c.type_size.result ≡ size_of (byte (set start.args.part 0 kind) 0)
-  sized = c.type_size.ensures ∙ ap size_of (sym (kind_set start.args.part kind (omega (arith, part_known start))))
+  sized : c.size_of-size.result ≡ size_of (byte (set c.args.part 0 kind) 0)
+  sized = c.size_of-size.ensures ∙ ap size_of (sym (kind_set c.args.part kind (omega (arith, part_known c.before.before.before.before.before))))
 
-returns-3 : tie.Need-returns-3
+returns-3 : tie.Need-returns-then-size-eq0
 returns-3 c =
-    let at-if3 = c.before in
-    let d = at-if3.before in
-    let a = (start d).args in
+    let a = c.args in
     c.broken.ensures
-    ∙ sym (from_wrong a.from a.log.now (inside d) 0 a.part a.number (first_wrong _ (kind d) (sym d.type_size.ensures ∙ at-if3.if3.true)))
-    ∙ none-taken (at-if1 d)
+    ∙ sym (from_wrong a.from a.log.now (inside c.before.before) 0 a.part a.number (first_wrong _ (kind c.before.before) (sym c.size_of-size.ensures ∙ c.if-size-eq0.true)))
+    ∙ none-taken (at-if1 c.before.before)
 
 -- and it is one
-module _ (c : tie.Else3) where
-  fits-first : fits_record 0 (byte (start c.before).args.part 0) (kind c.before) ≡ true
-  fits-first = first_fits _ (kind c.before) (λ z. c.if3.false (c.before.type_size.ensures ∙ z))
+module _ (c : tie.Else-size-eq0) where
+  fits-first : fits_record 0 (byte c.args.part 0) (kind c.before) ≡ true
+  fits-first = first_fits _ (kind c.before) (λ z. c.if-size-eq0.false (c.size_of-size.ensures ∙ z))
 
-returns-4 : tie.Need-returns-4
+returns-4 : tie.Need-returns-then-size-eq1
 returns-4 c =
-    let at-if4 = c.before in
-    let at-if3 = at-if4.before in
-    let d = at-if3.before in
-    let a = (start d).args in
-    c.reading2.ensures
-    ∙ sym (from-whole a.from a.log.now (inside d) 0 a.part a.number (fits-first at-if3) (sym at-if4.if4.true ∙ sized d))
-    ∙ none-taken (at-if1 d)
+    let a = c.args in
+    c.reading-then-size-eq1.ensures
+    ∙ sym (from-whole a.from a.log.now (inside c.before.before.before) 0 a.part a.number (fits-first c.before.before) (sym c.if-size-eq1.true ∙ sized c.before.before.before))
+    ∙ none-taken (at-if1 c.before.before.before)
 
-scan-rest-requires-2 : tie.Need-scan-rest-requires-2
+scan-rest-requires-2 : tie.Need-scan_rest-requires-2
 unfolding is_playing
 scan-rest-requires-2 c κs =
-    let at-if3 = c.before in
-    let d = at-if3.before in
-    let a = (start d).args in (
-      playing_next 0 a.part (kind d) (omega (arith, part_known (start d))) refl (fits-first at-if3) (λ s. c.if4.false (sized d ∙ sym s)),
+    let a = c.args in (
+      playing_next 0 a.part (kind c.before.before) (omega (arith, part_known (start c.before.before))) refl (fits-first c.before) (λ s. c.if-size-eq1.false (sized c.before.before ∙ sym s)),
       omega arith,
-      omega (arith, inside d),
+      omega (arith, inside c.before.before),
     )
 
-returns-5 : tie.Need-returns-5
+returns-5 : tie.Need-returns
 returns-5 c =
-    let at-if4 = c.before in
-    let at-if3 = at-if4.before in
-    let d = at-if3.before in
-    let a = (start d).args in
-    c.scan-rest2.ensures
-    ∙ sym (from_more a.from a.log.now (inside d) 0 a.part a.number (fits-first at-if3) (λ s. at-if4.if4.false (sized d ∙ sym s)))
-    ∙ none-taken (at-if1 d)
+    let a = c.args in
+    c.scan_rest-2.ensures
+    ∙ sym (from_more a.from a.log.now (inside c.before.before.before) 0 a.part a.number (fits-first c.before.before) (λ s. c.if-size-eq1.false (sized c.before.before.before ∙ sym s)))
+    ∙ none-taken (at-if1 c.before.before.before)
 
-pub scan-record-spec : {M : Type 1} → statement M
-scan-record-spec =
+pub scan_record_spec : {M : Type 1} → statement M
+scan_record_spec =
     tie.close
     (tie.spec
     (λ c κs. search rules)
