@@ -11,74 +11,72 @@ use Rattle.release.proofs.PendingWords.{owed_from, owed_all_lem, owed_split, owe
 use Rattle.release.proofs.msix.none_owed.Statement.{statement}
 use Rattle.release.proofs.msix.none_owed.Tie as tie
 
-abbrev invariant-loop : tie.invariant-loop
+abbrev invariant-loop : tie.invariant-loop-at
 invariant-loop table pending at₀ at = (at % 8 ≡ 0) × (at ≤ length pending) × (owed_entries table pending (entries table) ≡ owed_from table pending at)
 
-abbrev decreases-loop : tie.decreases-loop
+abbrev decreases-loop : tie.decreases-loop-at
 decreases-loop table pending at₀ at = length pending - at
 
 -- the word of a turn, and what is owed behind it
-module _ (c : tie.In-loop invariant-loop decreases-loop) where
-  abbrev at-loop : tie.At-loop invariant-loop decreases-loop
+module _ (c : tie.In-loop-at invariant-loop decreases-loop) where
+  abbrev at-loop : tie.At-loop-at invariant-loop decreases-loop
   at-loop = c.before
 
   abbrev start : tie.Start invariant-loop decreases-loop
-  start = at-loop.before.before.before
+  start = c.before.before.before.before
 
   abbrev at : ℕ
-  at = at-loop.loop.at
+  at = c.loop-at.at
 
   abbrev t : List ℕ
-  t = start.args.table.now
+  t = c.args.table.now
 
   abbrev p : List ℕ
-  p = start.args.pending.now
+  p = c.args.pending.now
 
   bytes : Bytes p
-  bytes i = (at-loop.before.shared-slice-known2.given i).fits
+  bytes i = (c.shared_slice_known-2-1.given i).fits
 
   room : at + 8 ≤ length p
-  room = omega (arith, at-loop.loop.inv.0, start.pre.words)
+  room = omega (arith, c.loop-at.invariant.0, c.requires.words)
 
   split : owed_entries t p (entries t) ≡ owed_word t p at ++ owed_from t p (at + 8)
-  split = at-loop.loop.inv.2 ∙ owed_split t p at room
+  split = c.loop-at.invariant.2 ∙ owed_split t p at room
 
-loop-holds : tie.Need-loop-init invariant-loop decreases-loop
-loop-holds c = (omega arith, omega arith, sym (owed_all_lem _ _ c.before.before.requires))
+loop-holds : tie.Need-loop-at-init invariant-loop decreases-loop
+loop-holds c = (omega arith, omega arith, sym (owed_all_lem _ _ c.requires))
 
-open-word-requires : tie.Need-open-word-requires invariant-loop decreases-loop
-open-word-requires c κs = ((start c).requires, room c)
+open-word-requires : tie.Need-open_word-requires invariant-loop decreases-loop
+open-word-requires c κs = (c.requires, room c)
 
-returns : tie.Need-returns invariant-loop decreases-loop
+returns : tie.Need-returns-then-open_word-ne0 invariant-loop decreases-loop
 returns c =
-    let in-loop = c.before.before in
-    let opened = c.before.open-word in
+    let opened = c.open_word in
     sym
-    (ap is_empty (split in-loop)
-    ∙ word_nonempty _ _ _ opened.result (bytes in-loop) opened.ensures _ (omega arith) (omega (arith, opened.type-inv)))
+    (ap is_empty (split c.before.before)
+    ∙ word_nonempty _ _ _ opened.result (bytes c.before.before) opened.ensures _ (omega arith) (omega (arith, opened.type_inv)))
 
-add_at : tie.Need-overflow-add-at invariant-loop decreases-loop
+add_at : tie.Need-overflow_add-at invariant-loop decreases-loop
 add_at c = omega (arith, room c.before.before)
 
-loop-less : tie.Need-loop-smaller invariant-loop decreases-loop
+loop-less : tie.Need-loop-at-smaller invariant-loop decreases-loop
 loop-less c = omega (arith, room c.before.before)
 
-loop-again : tie.Need-loop-preserved invariant-loop decreases-loop
+loop-again : tie.Need-loop-at-preserved invariant-loop decreases-loop
 loop-again c =
-    let in-loop = c.before.before in
-    let opened = c.before.open-word in
-    let e = word_empty _ _ _ opened.result (bytes in-loop) opened.ensures c.if1.false in (
-      omega (arith, (at-loop in-loop).loop.invariant.0),
-      room in-loop,
-      split in-loop ∙ ap (λ (l : List ℕ). l ++ owed_from (t in-loop) (p in-loop) (at in-loop + 8)) e,
+    let opened = c.open_word in
+    let e = word_empty _ _ _ opened.result (bytes c.before.before) opened.ensures c.if-open_word-ne0.false in (
+      omega (arith, c.loop-at.invariant.0),
+      room c.before.before,
+      split c.before.before ∙ ap (λ (l : List ℕ). l ++ owed_from (t c.before.before) (p c.before.before) (at c.before.before + 8)) e,
     )
 
-returns-2 : tie.Need-returns-2 invariant-loop decreases-loop
+returns-2 : tie.Need-returns invariant-loop decreases-loop
 unfolding is_empty
-returns-2 c = sym (ap is_empty (c.before.loop.invariant.2 ∙ owed_end _ _ _ c.loop-test.false))
+returns-2 c = sym (ap is_empty (c.loop-at.invariant.2 ∙ owed_end _ _ _ c.loop-at-test.false))
 
-pub none-owed-spec : {M : Type 1} → statement M
-none-owed-spec =
+pub none_owed_spec : {M : Type 1} → statement M
+none_owed_spec =
     tie.close
     (tie.spec
     invariant-loop

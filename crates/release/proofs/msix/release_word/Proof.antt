@@ -14,48 +14,42 @@ use Rattle.release.proofs.msix.release_word.Statement.{statement}
 use Rattle.release.proofs.msix.release_word.Tie as tie
 
 -- the open bits of the word are known
-module _ (opened : tie.After-open-word) where
+module _ (opened : tie.After-open_word-open) where
   abbrev start : tie.Start
-  start = let at-slices = opened.before.before in at-slices.before.before.before
+  start = opened.before.before.before.before
 
   abbrev t : List ℕ
-  t = start.args.table.now
+  t = opened.args.table.now
 
   abbrev p : List ℕ
-  p = start.args.pending.now
+  p = opened.args.pending.now
 
   bytes : Bytes p
-  bytes i = (opened.before.before.slice-known2.given i).fits
+  bytes i = (opened.slice_known-2-1.given i).fits
 
-returns : tie.Need-returns
+returns : tie.Need-returns-then-open-eq0
 returns c =
-    let opened = c.before in
-    released_none _ _ _ _ _ (word_empty (t opened) (p opened) (start opened).args.at opened.open-word.result (bytes opened) opened.open-word.ensures c.if1.true)
+    released_none _ _ _ _ _ (word_empty (t c.before) (p c.before) c.args.at c.open_word-open.result (bytes c.before) c.open_word-open.ensures c.if-open-eq0.true)
 
-word-send-requires : tie.Need-word-send-requires
+word-send-requires : tie.Need-word_send-requires
 word-send-requires c κs =
-    let opened = c.before.before.before.before.before.before.before.before in
-    let a = (start opened).args in
-    let packets = word-packets (t opened) (p opened) a.at opened.open-word.result (bytes opened) opened.open-word.ensures a.requester in (
-      open_backed (t opened) (p opened) a.at opened.open-word.result (bytes opened) (start opened).requires.0 opened.open-word.ensures,
-      omega (arith, ap length packets, (start opened).requires.2),
+    let a = c.args in
+    let packets = word-packets (t c.before.before.before.before.before.before.before) (p c.before.before.before.before.before.before.before) a.at c.open_word-open.result (bytes c.before.before.before.before.before.before.before) c.open_word-open.ensures a.requester in (
+      open_backed (t c.before.before.before.before.before.before.before) (p c.before.before.before.before.before.before.before) a.at c.open_word-open.result (bytes c.before.before.before.before.before.before.before) c.requires.0 c.open_word-open.ensures,
+      omega (arith, ap length packets, c.requires.2),
     )
 
-returns-2 : tie.Need-returns-2
+returns-2 : tie.Need-returns
 returns-2 c =
-    let at-word-send = c.before.before in
-    let at-put-le = at-word-send.before.before.before.before in
-    let at-word64 = at-put-le.before.before in
-    let opened = at-word64.before.before.before in
-    let a = (start opened).args in
-    let r = opened.open-word.result in
-    released_word _ (t opened) (p opened) _ a.at r at-word64.word64.result _ _ _ (bytes opened) (start opened).requires.1
-    (omega (arith, opened.open-word.type-inv)) at-word64.word64.ensures
-    opened.open-word.ensures at-word-send.word_send.ensures
-    (placed (p opened) a.at (bytes_of 8 (bit_and ((2 ^ 64 - 1) - r) at-word64.word64.result)) at-put-le.put-le.new.0 at-put-le.put-le.ensures.bytes)
+    let a = c.args in
+    let r = c.open_word-open.result in
+    released_word _ (t c.before.before.before.before.before.before.before.before.before.before) (p c.before.before.before.before.before.before.before.before.before.before) _ a.at r c.word64.result _ _ _ (bytes c.before.before.before.before.before.before.before.before.before.before) c.requires.1
+    (omega (arith, c.open_word-open.type_inv)) c.word64.ensures
+    c.open_word-open.ensures c.word_send.ensures
+    (placed (p c.before.before.before.before.before.before.before.before.before.before) a.at (bytes_of 8 (bit_and ((2 ^ 64 - 1) - r) c.word64.result)) c.put_le.new.out c.put_le.ensures.bytes)
 
-pub release-word-spec : {M : Type 1} → statement M
-release-word-spec =
+pub release_word_spec : {M : Type 1} → statement M
+release_word_spec =
     tie.close
     (tie.spec
     (λ c κs. search rules) (λ c. search rules)

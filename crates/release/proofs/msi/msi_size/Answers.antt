@@ -10,26 +10,22 @@ use Rattle.model.proofs.Vectors.PacketLaws.{message-length, size-le}
 use Rattle.release.specs.Owed.{set_bits}
 use Rattle.words.proofs.ListLaws.{join_each}
 use borrow.Author.Rules.{rules}
-use Rattle.release.proofs.msi.msi_size.Statement.{statement}
-use Rattle.release.proofs.msi.msi_size.Tie as tie
+use Rattle.release.proofs.msi.msi_size.Goals as goal
 
-cast-result : tie.Need-overflow-cast-result
-cast-result c = let h : c.args.owed < 2 ^ 32 = search rules in omega (arith, ones-le 32 c.args.owed h)
+pub overflow_cast-result : goal.overflow_cast-result
+overflow_cast-result c = let h : c.args.owed < 2 ^ 32 = search rules in omega (arith, ones-le 32 c.args.owed h)
 
-mul-result : tie.Need-overflow-mul-result
-mul-result c =
-    let a = c.before.args in
+pub overflow_mul-result : goal.overflow_mul-result
+overflow_mul-result c =
+    let a = c.args in
     let h : a.owed < 2 ^ 32 = search rules in
-    let s : c.message-size.result ≤ 20 = rw c.message-size.ensures (size-le a.upper) in
+    let s : c.message_size.result ≤ 20 = rw c.message_size.ensures (size-le a.upper) in
     omega (arith, mul-le-mul (ones-le 32 a.owed h) s)
 
-returns : tie.Need-returns
+pub returns : goal.returns
 returns c requester address base =
-    let a = c.before.args in
+    let a = c.args in
     sym
     (join_each (λ v. message requester a.upper address (base + v)) (message_size a.upper) (set_bits 32 a.owed)
     (λ v. message-length requester a.upper address (base + v))
-    ∙ ap₂ ◌*◌ (sym c.message-size.ensures) (length-set_bits 32 a.owed (search rules)) ∙ mul_comm _ _)
-
-pub msi-size-spec : {M : Type 1} → statement M
-msi-size-spec = tie.close (tie.spec cast-result (λ c κs. search rules) mul-result returns)
+    ∙ ap₂ ◌*◌ (sym c.message_size.ensures) (length-set_bits 32 a.owed (search rules)) ∙ mul_comm _ _)
