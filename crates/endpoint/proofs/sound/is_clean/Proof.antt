@@ -1,4 +1,5 @@
 -- One law for each test that fails; then what is owed decides. Assumes nothing.
+use Rattle.std.proofs.lemmas.Bool.{not_from_false, not_from_true}
 use mathlib.Core.Bool.{Bool, false}
 use mathlib.Core.List.{List, []}
 use Prim.Native.Nat.{ℕ}
@@ -14,67 +15,49 @@ unit c sizes events requester line =
     let a = c.args in
     endpoint_of (function_of a.config.now sizes events requester line a.waiting) a.table.now a.pending.now
 
-config-clean-requires : tie.Need-config-clean-requires
+config-clean-requires : tie.Need-config_clean-requires
 config-clean-requires c κs =
-    let start = c.before.before.before in
-    (start.requires.0, start.requires.2.form)
+    (c.requires.0, c.requires.2.form)
 
-returns : tie.Need-returns
+returns : tie.Need-returns-then-not-config_clean
 returns c =
-    let at-config-clean = c.before in
-    let start = at-config-clean.before.before.before.before in
-    λ z e q l _. bad-config _ (unit start z e q l) _ at-config-clean.config-clean.ensures c.if1.true
+    λ z e q l _. bad-config _ (unit c.before.before.before.before.before.before z e q l) _ c.config_clean.ensures (not_from_false _ c.if-not-config_clean.true)
 
-table-clean-requires : tie.Need-table-clean-requires
+table-clean-requires : tie.Need-table_clean-requires
 unfolding table_bytes
 table-clean-requires c κs =
-    let start = c.before.before.before.before.before in
-    start.requires.1.table
+    c.requires.1.table
 
-returns-2 : tie.Need-returns-2
+returns-2 : tie.Need-returns-then-not-table_clean
 returns-2 c =
-    let at-table-clean = c.before in
-    let start = at-table-clean.before.before.before.before.before.before in
-    λ z e q l _. bad_table _ (unit start z e q l) _ at-table-clean.table-clean.ensures c.if2.true
+    λ z e q l _. bad_table _ (unit c.before.before.before.before.before.before.before.before z e q l) _ c.table_clean.ensures (not_from_false _ c.if-not-table_clean.true)
 
-waits-below-requires : tie.Need-waits-below-requires
+waits-below-requires : tie.Need-waits_below-requires
 waits-below-requires c κs =
-    let start = c.before.before.before.before.before.before.before in
-    (start.requires.1.shape.capable, start.requires.1.pending)
+    (c.requires.1.shape.capable, c.requires.1.pending)
 
-returns-3 : tie.Need-returns-3
+returns-3 : tie.Need-returns-then-not-waits_below
 returns-3 c =
-    let at-waits-below = c.before in
-    let start = at-waits-below.before.before.before.before.before.before.before.before in
-    let a = start.args in
+    let a = c.args in
     λ z e q l _.
-    bad_below _ (unit start z e q l) _ (at-waits-below.waits-below.ensures a.config.now a.table.now z e q l) c.if3.true
+    bad_below _ (unit c.before.before.before.before.before.before.before.before.before.before z e q l) _ (c.waits_below.ensures a.config.now a.table.now z e q l) (not_from_false _ c.if-not-waits_below.true)
 
-nothing-owed-requires : tie.Need-nothing-owed-requires
+nothing-owed-requires : tie.Need-nothing_owed-requires
 nothing-owed-requires c κs =
-    let at-waits-below = c.before in
-    let start = at-waits-below.before.before.before.before.before.before.before.before in
-    let a = start.args in
-    let few = at-waits-below.waits-below.ensures a.config.now a.table.now [] 0 0 false in
-    (start.requires.2, all_lent _ (unit start [] 0 0 false) _ start.requires.1 few c.if3.false, start.requires.1.table)
+    let a = c.args in
+    let few = c.waits_below.ensures a.config.now a.table.now [] 0 0 false in
+    (c.requires.2, all_lent _ (unit c.before.before.before.before.before.before.before.before.before.before [] 0 0 false) _ c.requires.1 few (not_from_true _ c.if-not-waits_below.false), c.requires.1.table)
 
-returns-4 : tie.Need-returns-4
+returns-4 : tie.Need-returns
 returns-4 c =
-    let at-if3 = c.before in
-    let at-waits-below = at-if3.before in
-    let at-if2 = at-waits-below.before in
-    let at-table-clean = at-if2.before in
-    let at-if1 = at-table-clean.before in
-    let at-config-clean = at-if1.before in
-    let start = at-config-clean.before.before.before.before in
-    let a = start.args in
+    let a = c.args in
     λ z e q l k.
-    by_owed _ (unit start z e q l) _ _ _ at-config-clean.config-clean.ensures at-table-clean.table-clean.ensures
-    (at-waits-below.waits-below.ensures a.config.now a.table.now z e q l) _ k at-if1.if1.false at-if2.if2.false at-if3.if3.false
-    (c.nothing-owed.ensures z e q l)
+    by_owed _ (unit c.before.before.before.before.before.before.before.before.before.before.before z e q l) _ _ _ c.config_clean.ensures c.table_clean.ensures
+    (c.waits_below.ensures a.config.now a.table.now z e q l) _ k (not_from_true _ c.if-not-config_clean.false) (not_from_true _ c.if-not-table_clean.false) (not_from_true _ c.if-not-waits_below.false)
+    (c.nothing_owed.ensures z e q l)
 
-pub is-clean-spec : {M : Type 1} → statement M
-is-clean-spec =
+pub is_clean_spec : {M : Type 1} → statement M
+is_clean_spec =
     tie.close
     (tie.spec
     config-clean-requires

@@ -15,54 +15,43 @@ unit c sizes events requester line =
     let a = c.args in
     endpoint_of (function_of a.config.now sizes events requester line a.waiting) a.table.now a.pending.now
 
-msi-owed-requires : tie.Need-msi-owed-requires
+msi-owed-requires : tie.Need-msi_owed-requires
 msi-owed-requires c κs =
-    let start = c.before.before.before.before in
-    let k = start.requires.0 in
-    (k.fits, k.form, λ t. k.mode t ∙ c.enum-told2.given.1)
+    let k = c.requires.0 in
+    (k.fits, k.form, λ t. k.mode t ∙ c.in-Msi.is)
 
-msix-enabled-requires : tie.Need-msix-enabled-requires
+msix-enabled-requires : tie.Need-msix_enabled-requires
 msix-enabled-requires c κs =
-    let start = c.before.before.before.before in
-    let k = start.requires.0 in
-    (k.fits, λ t. k.mode t ∙ c.enum-told3.given.1)
+    let k = c.requires.0 in
+    (k.fits, λ t. k.mode t ∙ c.in-Msix.is)
 
-none-owed-requires : tie.Need-none-owed-requires
+none-owed-requires : tie.Need-none_owed-requires
 none-owed-requires c κs =
-    let start = c.before.before.before.before.before.before in
-    start.requires.1
+    c.requires.1
 
-returns : tie.Need-returns
+returns : tie.Need-returns-then-msix_enabled
 returns c =
-    let at-if1 = c.before in
-    let at_msix = at-if1.before.before in
-    let start = at_msix.before.before.before.before in
-    let k = start.requires.0 in
+    let k = c.requires.0 in
     λ z e q l.
-    msix-idle _ (unit start z e q l) _ (k.mode _ ∙ at_msix.enum-told3.given.1)
-    (sym (at-if1.before.msix-enabled.ensures _) ∙ at-if1.if1.true) start.requires.2 c.none-owed.ensures
+    msix-idle _ (unit c.before.before.before.before.before.before.before z e q l) _ (k.mode _ ∙ c.in-Msix.is)
+    (sym (c.msix_enabled.ensures _) ∙ c.if-msix_enabled.true) c.requires.2 c.none_owed.ensures
 
-returns-2 : tie.Need-returns-2
+returns-2 : tie.Need-returns-in-Pin
 returns-2 c =
-    let start = c.before.before.before.before in
-    λ z e q l. pin-idle _ (unit start z e q l) (start.requires.0.mode _ ∙ c.enum_told.given.1)
+    λ z e q l. pin-idle _ (unit c.before.before.before z e q l) (c.requires.0.mode _ ∙ c.in-Pin.is)
 
-returns-3 : tie.Need-returns-3
+returns-3 : tie.Need-returns-in-Msi
 returns-3 c =
-    let at-msi = c.before in
-    let start = at-msi.before.before.before.before in
     λ z e q l.
-    msi-idle _ (unit start z e q l) _ (start.requires.0.mode _ ∙ at-msi.enum-told2.given.1) (c.msi-owed.ensures z e q l _ _) (search rules)
+    msi-idle _ (unit c.before.before.before.before.before.before z e q l) _ (c.requires.0.mode _ ∙ c.in-Msi.is) (c.msi_owed.ensures z e q l _ _) (search rules)
 
-returns-4 : tie.Need-returns-4
+returns-4 : tie.Need-returns-else-msix_enabled
 returns-4 c =
-    let at_msix = c.before.before in
-    let start = at_msix.before.before.before.before in
     λ z e q l.
-    msix_off _ (unit start z e q l) (start.requires.0.mode _ ∙ at_msix.enum-told3.given.1) (sym (c.before.msix-enabled.ensures _) ∙ c.if1.false)
+    msix_off _ (unit c.before.before.before.before.before.before z e q l) (c.requires.0.mode _ ∙ c.in-Msix.is) (sym (c.msix_enabled.ensures _) ∙ c.if-msix_enabled.false)
 
-pub nothing-owed-spec : {M : Type 1} → statement M
-nothing-owed-spec =
+pub nothing_owed_spec : {M : Type 1} → statement M
+nothing_owed_spec =
     tie.close
     (tie.spec
     (λ c. search rules) (λ c. search rules)
