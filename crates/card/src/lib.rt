@@ -1,4 +1,6 @@
 // What the calls share: answers, outcomes, soundness, a changed function, and what follows a change.
+#![tactic(auto)]
+
 pub mod answer;
 pub mod changed;
 pub mod outcome;

@@ -17,121 +17,107 @@ use Rattle.card.proofs.settle.settle.Tie as tie
 
 -- the changed function
 abbrev unit : tie.Start → Endpoint
-unit c = let a = c.args in endpoint_of a.t2 a.table.now a.pending.now
+unit c = let a = c.args in endpoint_of a.f a.table.now a.pending.now
 
-owed-size-requires-2 : tie.Need-owed-size-requires-2
+owed-size-requires-2 : tie.Need-owed_size-rest-requires
 owed-size-requires-2 c κs =
-    let at-set-mode = c.before.before in
-    let start = at-set-mode.before.before.before.before.before.before.before in
-    (start.requires.ready, start.requires.profiled)
+    (c.requires.ready, c.requires.profiled)
 
 -- both sizes are known
-module _ (c : tie.After-owed-size2) where
-  abbrev at-owed-size : tie.After-owed-size
-  at-owed-size = c.before.before
+module _ (c : tie.After-owed_size-rest) where
+  abbrev at-owed-size : tie.After-owed_size-first
+  at-owed-size = c.before
 
-  abbrev at-set-mode : tie.After-set-mode
-  at-set-mode = at-owed-size.before
+  abbrev at-set-mode : tie.After-set_mode-wired
+  at-set-mode = c.before.before
 
   abbrev start : tie.Start
-  start = let at-command-bit = at-set-mode.before in let entry = at-command-bit.before.before.before in entry.before.before.before
+  start = c.before.before.before.before.before.before.before.before
 
   abbrev owed : Owed
-  owed = at-set-mode.set-mode.result.owed
+  owed = c.set_mode-wired.result.owed
 
   -- the level that the wire goes to, and the packet of that
-  wired : (at-set-mode.set-mode.result.wiring.wire ≡ wire_due_of start.args.k.shape (unit start))
-      × (owed ≡ owed_of start.args.card.wire (wire_due_of start.args.k.shape (unit start)))
+  wired : (c.set_mode-wired.result.wiring.wire ≡ wire_due_of c.args.k.shape (unit c.before.before.before.before.before.before.before.before))
+      × (owed ≡ owed_of c.args.card.wire (wire_due_of c.args.k.shape (unit c.before.before.before.before.before.before.before.before)))
   wired =
-      let a = start.args in
-      let k = start.pre in
+      let a = c.args in
+      let k = c.requires in
       at_level _ _ _
-      (at-set-mode.set-mode.ensures
-      ∙ settled-mode a.w a.k.shape a.t2.line a.card.wire (registers (unit start)) a.k.mode _ k.line k.wire (k.pin a.table.now)
-      (sym (k.profiled.mode a.table.now)) (at-set-mode.before.command-bit.ensures a.table.now))
+      (c.set_mode-wired.ensures
+      ∙ settled-mode a.w a.k.shape a.f.line a.card.wire (registers (unit c.before.before.before.before.before.before.before.before)) a.k.mode _ k.line k.wire (k.pin a.table.now)
+      (sym (k.profiled.mode a.table.now)) (c.command_bit-disabled.ensures a.table.now))
 
-add-if1 : tie.Need-overflow-add-if1
-add-if1 c = omega (arith, size_small (owed c), (at-owed-size c).owed-size.ensures, sweep_le _ _ (start c).requires.ready, c.owed-size2.ensures)
+add-if1 : tie.Need-overflow_add-first
+add-if1 c = omega (arith, size_small (owed c), c.owed_size-first.ensures, sweep_le _ _ c.requires.ready, c.owed_size-rest.ensures)
 
-returns : tie.Need-returns
+returns : tie.Need-returns-then-out-first
 returns c =
-    let sized = c.before.before in
-    settle-short _ _ _ _ (unit (start sized)) _ (wired sized).1 _ _ (at-owed-size sized).owed-size.ensures sized.owed-size2.ensures _ _
-    c.before.if1.true c.refused.ensures
+    settle-short _ _ _ _ (unit (start c.before.before)) _ (wired c.before.before).1 _ _ c.owed_size-first.ensures c.owed_size-rest.ensures _ _
+    c.if-out-first.true c.refused.ensures
 
-put-owed-requires : tie.Need-put-owed-requires
+put-owed-requires : tie.Need-put_owed-at-requires
 put-owed-requires c κs =
-    let at-if1 = c.before in
-    let sized = at-if1.before in
-    let begin = start sized in
-    let pin = begin.pre.pin begin.args.table.now in
-    (omega (arith, pin, pin-small _ _ begin.pre.ready), omega (arith, at-if1.if1.false, (at-owed-size sized).owed-size.ensures))
+    let pin = c.requires.pin c.args.table.now in
+    (omega (arith, pin, pin-small _ _ c.requires.ready), omega (arith, c.if-out-first.false, c.owed_size-first.ensures))
 
 -- the wire's packet is written
-module _ (c : tie.After-put-owed) where
-  abbrev at-if1 : tie.Else1
+module _ (c : tie.After-put_owed-at) where
+  abbrev at-if1 : tie.Else-out-first
   at-if1 = c.before.before
 
-  abbrev sized : tie.After-owed-size2
-  sized = at-if1.before
+  abbrev sized : tie.After-owed_size-rest
+  sized = c.before.before.before
 
   -- the sweep fits behind it
-  room : c.put-owed.result + sized.owed-size2.result ≤ length c.put-owed.new.0
+  room : c.put_owed-at.result + c.owed_size-rest.result ≤ length c.put_owed-at.new.out
   room =
-      let a = (start sized).args in
+      let a = c.args in
       omega (
         arith,
-        c.put-owed.ensures.count,
-        owed-length (owed sized) a.t2.requester a.w.pin,
-        (at-owed-size sized).owed-size.ensures,
-        at-if1.if1.left,
-        c.put-owed.auto.0,
+        c.put_owed-at.ensures.count,
+        owed-length (owed c.before.before.before) a.f.requester a.w.pin,
+        c.owed_size-first.ensures,
+        c.if-out-first.false,
+        c.put_owed-at.auto.out,
       )
 
   -- and both are few bytes
-  few : c.put-owed.result + sized.owed-size2.result ≤ 40976
+  few : c.put_owed-at.result + c.owed_size-rest.result ≤ 40976
   few =
-      let a = (start sized).args in
+      let a = c.args in
       omega (
         arith,
-        c.put-owed.ensures.count,
-        owed-length (owed sized) a.t2.requester a.w.pin,
-        size_small (owed sized),
-        sweep_le _ _ (start sized).pre.ready,
-        sized.owed-size2.ensures,
+        c.put_owed-at.ensures.count,
+        owed-length (owed c.before.before.before) a.f.requester a.w.pin,
+        size_small (owed c.before.before.before),
+        sweep_le _ _ c.requires.ready,
+        c.owed_size-rest.ensures,
       )
 
-sub-send-owed : tie.Need-overflow-sub-send-owed
+sub-send-owed : tie.Need-slice_bounds-send_owed-count
 sub-send-owed c = omega (arith, room c.before.before.before)
 
-part-send-owed-start : tie.Need-slice-bounds-send-owed-start
+part-send-owed-start : tie.Need-slice_bounds-send_owed-start
 part-send-owed-start c = omega (arith, room c.before.before.before)
 
-send-owed-requires : tie.Need-send-owed-requires
+send-owed-requires : tie.Need-send_owed-sent-requires
 send-owed-requires c κs =
-    let at-put-owed = c.before.before.before.before in
-    let begin = start (sized at-put-owed) in
-    (begin.pre.ready, begin.pre.profiled, simp (length-take, length-drop) (omega (arith, room at-put-owed, (sized at-put-owed).owed-size2.ensures)))
+    let begin = start (sized c.before.before.before.before) in
+    (begin.requires.ready, begin.requires.profiled, simp (length-take, length-drop) (omega (arith, room c.before.before.before.before, c.owed_size-rest.ensures)))
 
-add-accepted : tie.Need-overflow-add-accepted
+add-accepted : tie.Need-overflow_add-at
 add-accepted c =
-    let at-send-owed = c.before.before.before.before.before.before in
-    let at-put-owed = at-send-owed.before.before.before.before.before in
-    omega (arith, few at-put-owed, (sized at-put-owed).owed-size2.ensures, at-send-owed.send-owed.ensures.sent.count)
+    omega (arith, few c.before.before.before.before.before.before.before.before.before.before.before, c.owed_size-rest.ensures, c.send_owed-sent.ensures.sent.count)
 
-returns-2 : tie.Need-returns-2
+returns-2 : tie.Need-returns
 returns-2 c =
-    let at-with-waiting = c.before.before in
-    let at-send-owed = at-with-waiting.before.before.before.before.before in
-    let at-put-owed = at-send-owed.before.before.before.before.before in
-    let both = sized at-put-owed in
-    let begin = start both in
-    settle-done _ _ _ _ (unit begin) _ (wired both).1 _ _ (at-owed-size both).owed-size.ensures both.owed-size2.ensures _ _ _ _ _ _ _ _ _ _
-    (at-if1 at-put-owed).if1.false (begin.pre.pin begin.args.table.now) at-put-owed.put-owed.ensures at-send-owed.send-owed.ensures
-    (wired both).0 at-with-waiting.with-waiting.ensures c.accepted.ensures
+    settle-done _ _ _ _ (unit c.before.before.before.before.before.before.before.before.before.before.before.before.before.before.before.before.before.before.before.before.before.before.before) _ (wired c.before.before.before.before.before.before.before.before.before.before.before.before.before.before.before).1 _ _ c.owed_size-first.ensures c.owed_size-rest.ensures _ _ _ _ _ _ _ _ _ _
+    c.if-out-first.false (c.requires.pin c.args.table.now) c.put_owed-at.ensures c.send_owed-sent.ensures
+    (wired c.before.before.before.before.before.before.before.before.before.before.before.before.before.before.before).0 c.with_waiting-function.ensures c.accepted.ensures
 
-pub settle-spec : {M : Type 1} → statement M
-settle-spec =
+pub settle_spec : {M : Type 1} → statement M
+settle_spec =
     tie.close
     (tie.spec
     (λ c κs. search rules) (λ c κs. search rules) (λ c κs. search rules)

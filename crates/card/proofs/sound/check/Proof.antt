@@ -12,20 +12,13 @@ card-of c =
     let a = c.args in
     card_with a.config.now a.sizes.now a.events a.requester a.line a.waiting a.wire
 
-returns : tie.Need-returns
+returns : tie.Need-returns-then-not-found
 returns c =
-    let at-wiring = c.before.before in
-    let at-check = at-wiring.before.before in
-    let start = at-check.before.before.before in
-    check_function (card-of start) _ _ _ (at-check.check.ensures _) _ at-wiring.wiring.ensures c.if1.true
+    check_function (card-of c.before.before.before.before.before.before.before) _ _ _ (c.check-found.ensures _) _ c.wiring-wiring.ensures c.if-not-found.true
 
-returns-2 : tie.Need-returns-2
+returns-2 : tie.Need-returns
 returns-2 c =
-    let at-if1 = c.before in
-    let at-wiring = at-if1.before.before in
-    let at-check = at-wiring.before.before in
-    let start = at-check.before.before.before in
-    check-wire (card-of start) _ _ _ (at-check.check.ensures _) _ at-wiring.wiring.ensures at-if1.if1.false _ c.due.ensures
+    check-wire (card-of c.before.before.before.before.before.before.before.before) _ _ _ (c.check-found.ensures _) _ c.wiring-wiring.ensures c.if-not-found.false _ c.due-due.ensures
 
-pub check-spec : {M : Type 1} → statement M
-check-spec = tie.close (tie.spec (λ c κs. search rules) (λ c κs. search rules) returns (λ c κs. search rules) returns-2)
+pub check_spec : {M : Type 1} → statement M
+check_spec = tie.close (tie.spec (λ c κs. search rules) (λ c κs. search rules) returns (λ c κs. search rules) returns-2)
