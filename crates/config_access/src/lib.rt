@@ -1,4 +1,6 @@
 // Configuration reads and writes.
+#![tactic(auto)]
+
 pub mod bounds;
 pub mod config_read;
 pub mod config_write;

@@ -9,55 +9,40 @@ use borrow.Author.Rules.{rules}
 use Rattle.config_access.proofs.config_write.config_write_core.Statement.{statement}
 use Rattle.config_access.proofs.config_write.config_write_core.Tie as tie
 
-returns : tie.Need-returns
+returns : tie.Need-returns-then-bad_config
 returns c =
-    let at-if1 = c.before in
-    core_row _ _ _ _ 3 _ (config-refused _ _ _ _ (config-writes _ _) (sym at-if1.before.bad-config.ensures ∙ at-if1.if1.true)) refl
+    core_row _ _ _ _ 3 _ (config-refused _ _ _ _ (config-writes _ _) (sym c.bad_config.ensures ∙ c.if-bad_config.true)) refl
     c.refused.ensures
 
 -- row 3 does not apply
-module _ (c : tie.Else1) where
+module _ (c : tie.Else-bad_config) where
   abbrev start : tie.Start
-  start = let at-bad-config = c.before in at-bad-config.before.before.before.before
+  start = c.before.before.before.before.before
 
-  passed : bad_config start.args.offset start.args.width ≡ false
-  passed = sym c.before.bad-config.ensures ∙ c.if1.false
+  passed : bad_config c.args.offset c.args.width ≡ false
+  passed = sym c.bad_config.ensures ∙ c.if-bad_config.false
 
-config-written-requires : tie.Need-config-written-requires
+config-written-requires : tie.Need-config_written-config-requires
 config-written-requires c κs =
-    let at-if1 = c.before.before.before in
-    write_asks _ _ _ _ (start at-if1).requires.0 _ _ (start at-if1).args.value (passed at-if1)
+    write_asks _ _ _ _ c.requires.0 _ _ c.args.value (passed c.before.before.before)
 
-mode-requires : tie.Need-mode-requires
+mode-requires : tie.Need-mode-mode-requires
 mode-requires c κs =
-    let at-with-config = c.before.before in
-    let at-if1 = at-with-config.before.before.before.before.before in
-    (start at-if1).requires.0.profiled.fits
+    c.requires.0.profiled.fits
 
 settle-requires : tie.Need-settle-requires
 settle-requires c κs =
-    let at-mode = c.before.before in
-    let at-with-config = at-mode.before.before.before in
-    let at-config-written = at-with-config.before in
-    let at-if1 = at-config-written.before.before.before.before in
-    let begin = start at-if1 in
-    write-unsettled _ _ _ _ begin.pre.0 _ _ _ (passed at-if1) _ at-config-written.config-written.ensures _ at-with-config.with-config.ensures _
-    begin.pre.1 _ at-mode.mode.ensures
+    write-unsettled _ _ _ _ c.requires.0 _ _ _ (passed c.before.before.before.before.before.before.before.before.before.before) _ c.config_written-config.ensures _ c.with_config-f.ensures _
+    c.requires.1 _ c.mode-mode.ensures
 
-returns-2 : tie.Need-returns-2
+returns-2 : tie.Need-returns
 returns-2 c =
-    let at-settle = c.before.before.before.before in
-    let at-mode = at-settle.before.before.before in
-    let at-with-config = at-mode.before.before.before in
-    let at-config-written = at-with-config.before in
-    let at-if1 = at-config-written.before.before.before.before in
-    let begin = start at-if1 in
-    at-settle.settle.ensures
-    ∙ write-settles _ _ _ _ begin.pre.0 _ _ _ (passed at-if1) _ at-config-written.config-written.ensures _ at-with-config.with-config.ensures
-    begin.args.out.now
+    c.settle.ensures
+    ∙ write-settles _ _ _ _ c.requires.0 _ _ _ (passed c.before.before.before.before.before.before.before.before.before.before.before.before.before.before.before) _ c.config_written-config.ensures _ c.with_config-f.ensures
+    c.args.out.now
 
-pub config-write-core-spec : {M : Type 1} → statement M
-config-write-core-spec =
+pub config_write_core_spec : {M : Type 1} → statement M
+config_write_core_spec =
     tie.close
     (tie.spec
     (λ c κs. search rules) (λ c κs. search rules)
