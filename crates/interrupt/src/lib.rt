@@ -1,4 +1,6 @@
 // Events, the line, and withdrawals.
+#![tactic(auto)]
+
 pub mod event;
 pub mod line;
 pub mod withdraw;

@@ -17,49 +17,35 @@ use Rattle.interrupt.proofs.event.event_core.Tie as tie
 abbrev card-of : tie.Start → List ℕ → Bool → Bool → Card
 card-of c sizes line wire = let a = c.args in card_with a.config.now sizes a.events a.requester line a.waiting wire
 
-returns : tie.Need-returns
+returns : tie.Need-returns-then-events-number
 returns c =
-    let start = c.before.before.before.before in
-    λ z l y k. core_row (card-of start z l y) _ _ _ 2 _ (event-refused _ _ _ c.if1.true) refl refl
+    λ z l y k. core_row (card-of c.before.before.before.before z l y) _ _ _ 2 _ (event-refused _ _ _ c.if-events-number.true) refl refl
 
-event-vector-requires : tie.Need-event-vector-requires
+event-vector-requires : tie.Need-event_vector-meant-requires
 event-vector-requires c κs =
-    let start = c.before.before.before.before in
-    start.requires.runs.profiled.fits
+    c.requires.runs.profiled.fits
 
-returns-2 : tie.Need-returns-2
+returns-2 : tie.Need-returns-in-Nothing
 returns-2 c =
-    let at-event-vector = c.before.before in
-    let at-if1 = at-event-vector.before in
-    let start = at-if1.before.before.before.before in
     λ z l y k.
-    event-lost (card-of start z l y) _ _ _ _ k _ at-if1.if1.false _ (at-event-vector.event-vector.ensures _) c.enum_told.given.1 _ refl
+    event-lost (card-of c.before.before.before.before.before.before.before z l y) _ _ _ _ k _ c.if-events-number.false _ (c.event_vector-meant.ensures _) c.in-Nothing.is _ refl
 
 raise-requires : tie.Need-raise-requires
-raise-requires c κs =
-    let at-meant = c.before.before.before in
-    let at-event-vector = at-meant.before.before in
-    let at-if1 = at-event-vector.before in
-    let start = at-if1.before.before.before.before in (
-      start.requires.runs.profiled,
-      running_fit start.requires.runs,
-      event-vector-counted _ _ _ start.args.out.now _ start.requires.runs _ at-if1.if1.false _ (at-event-vector.event-vector.ensures _) _
-          at-meant.meant.given.1,
-    )
+raise-requires c κs = (
+  c.requires.runs.profiled,
+  running_fit c.requires.runs,
+  event-vector-counted _ _ _ c.args.out.now _ c.requires.runs _ c.if-events-number.false _ (c.event_vector-meant.ensures _) _
+      c.in-One.is,
+)
 
-returns-3 : tie.Need-returns-3
+returns-3 : tie.Need-returns-in-One
 returns-3 c =
-    let at-raise = c.before.before.before.before in
-    let at-meant = at-raise.before.before.before.before in
-    let at-event-vector = at-meant.before.before in
-    let at-if1 = at-event-vector.before in
-    let start = at-if1.before.before.before.before in
     λ z l y k.
-    at-raise.raise.ensures z _ l y
-    ∙ event-raised (card-of start z l y) _ _ _ _ k _ at-if1.if1.false _ (at-event-vector.event-vector.ensures _) _ at-meant.meant.given.1
+    c.raise.ensures z _ l y
+    ∙ event-raised (card-of c.before.before.before.before.before.before.before.before.before.before.before.before.before.before z l y) _ _ _ _ k _ c.if-events-number.false _ (c.event_vector-meant.ensures _) _ c.in-One.is
 
-pub event-core-spec : {M : Type 1} → statement M
-event-core-spec =
+pub event_core_spec : {M : Type 1} → statement M
+event_core_spec =
     tie.close
     (tie.spec
     returns

@@ -20,61 +20,40 @@ card-of c sizes events line wire = let a = c.args in card_with a.config.now size
 abbrev unit : tie.Start → List ℕ → ℕ → Bool → Bool → Endpoint
 unit c sizes events line wire = let a = c.args in (world_of (card-of c sizes events line wire) a.table.now a.pending.now).endpoint
 
-is-open-requires : tie.Need-is-open-requires
+is-open-requires : tie.Need-is_open-requires
 is-open-requires c κs =
-    let start = c.before.before.before in
-    (start.requires.0, start.requires.1.table)
+    (c.requires.0, c.requires.1.table)
 
 send-requires : tie.Need-send-requires
 send-requires c κs =
-    let at-if1 = c.before in
-    let at-is-open = at-if1.before in
-    let start = at-is-open.before.before.before.before in
-    let a = start.args in
-    let opened = sym at-is-open.is_open.ensures ∙ at-if1.if1.true in
-    (start.requires.0, start.requires.1.table, (open_parts a.k.mode a.k.shape (regs a.config.now a.table.now) a.v.0 opened).enable)
+    let a = c.args in
+    let opened = sym c.is_open.ensures ∙ c.if-is_open.true in
+    (c.requires.0, c.requires.1.table, (open_parts a.k.mode a.k.shape (regs a.config.now a.table.now) a.v.0 opened).enable)
 
-returns : tie.Need-returns
+returns : tie.Need-returns-then-is_open
 returns c =
-    let at-send = c.before.before in
-    let at-if1 = at-send.before.before in
-    let at-is-open = at-if1.before in
-    let start = at-is-open.before.before.before.before in
     λ z e l y.
-    at-send.send.ensures start.args.pending.now z e l y
-    ∙ raised_open (card-of start z e l y) _ _ _ _ _ _ _ at-is-open.is_open.ensures at-if1.if1.true
+    c.send.ensures c.args.pending.now z e l y
+    ∙ raised_open (card-of c.before.before.before.before.before.before.before.before.before z e l y) _ _ _ _ _ _ _ c.is_open.ensures c.if-is_open.true
 
-returns-2 : tie.Need-returns-2
+returns-2 : tie.Need-returns-then-waits
 returns-2 c =
-    let at-waits = c.before in
-    let at-if1 = at-waits.before.before in
-    let at-is-open = at-if1.before in
-    let start = at-is-open.before.before.before.before in
     λ z e l y.
-    raised-merged (card-of start z e l y) _ _ _ _ _ _ _ at-is-open.is_open.ensures _ (at-waits.waits.ensures (unit start z e l y)) _
-    at-if1.if1.false c.if2.true refl
+    raised-merged (card-of c.before.before.before.before.before.before.before z e l y) _ _ _ _ _ _ _ c.is_open.ensures _ (c.waits.ensures (unit c.before.before.before.before.before.before.before z e l y)) _
+    c.if-is_open.false c.if-waits.true refl
 
-set-bit-requires : tie.Need-set-bit-requires
+set-bit-requires : tie.Need-set_bit-held-requires
 set-bit-requires c κs =
-    let at-waits = c.before.before in
-    let at-is-open = at-waits.before.before.before in
-    let start = at-is-open.before.before.before.before in
-    (start.requires.1.shape.capable, start.requires.1.pending, start.requires.2)
+    (c.requires.1.shape.capable, c.requires.1.pending, c.requires.2)
 
-returns-3 : tie.Need-returns-3
+returns-3 : tie.Need-returns
 returns-3 c =
-    let at-set-bit = c.before.before in
-    let at-if2 = at-set-bit.before.before in
-    let at-waits = at-if2.before in
-    let at-if1 = at-waits.before.before in
-    let at-is-open = at-if1.before in
-    let start = at-is-open.before.before.before.before in
     λ z e l y.
-    raised-held (card-of start z e l y) _ _ _ _ _ _ _ at-is-open.is_open.ensures _ (at-waits.waits.ensures (unit start z e l y)) _ _ _
-    at-if1.if1.false at-if2.if2.false (at-set-bit.set-bit.ensures (unit start z e l y)) refl
+    raised-held (card-of c.before.before.before.before.before.before.before.before.before.before.before.before z e l y) _ _ _ _ _ _ _ c.is_open.ensures _ (c.waits.ensures (unit c.before.before.before.before.before.before.before.before.before.before.before.before z e l y)) _ _ _
+    c.if-is_open.false c.if-waits.false (c.set_bit-held.ensures (unit c.before.before.before.before.before.before.before.before.before.before.before.before z e l y)) refl
 
-pub raise-spec : {M : Type 1} → statement M
-raise-spec =
+pub raise_spec : {M : Type 1} → statement M
+raise_spec =
     tie.close
     (tie.spec
     is-open-requires

@@ -14,28 +14,20 @@ use Rattle.interrupt.proofs.event.send.Tie as tie
 abbrev card-of : tie.Start → List ℕ → ℕ → Bool → Bool → Card
 card-of c sizes events line wire = let a = c.args in card_with a.config.now sizes events a.requester line a.waiting wire
 
-returns : tie.Need-returns
+returns : tie.Need-returns-then-out-message_size
 returns c =
-    let at-message-size = c.before in
-    let at-vector-message = at-message-size.before in
-    let start = at-vector-message.before.before.before in
     λ p z e l y.
-    send_short (card-of start z e l y) _ p _ _ _ _ _ _ _ _ (at-vector-message.vector-message.ensures _) at-message-size.message-size.ensures _
-    c.if1.true refl
+    send_short (card-of c.before.before.before.before.before z e l y) _ p _ _ _ _ _ _ _ _ (c.vector_message-message.ensures _) c.message_size.ensures _
+    c.if-out-message_size.true refl
 
-returns-2 : tie.Need-returns-2
+returns-2 : tie.Need-returns
 returns-2 c =
-    let at-put = c.before.before in
-    let at-if1 = at-put.before.before in
-    let at-message-size = at-if1.before in
-    let at-vector-message = at-message-size.before in
-    let start = at-vector-message.before.before.before in
     λ p z e l y.
-    send_done (card-of start z e l y) _ p _ _ _ _ _ _ _ _ (at-vector-message.vector-message.ensures _) at-message-size.message-size.ensures _ _ _
-    at-if1.if1.false at-put.put-vector-message.ensures refl
+    send_done (card-of c.before.before.before.before.before.before.before.before.before z e l y) _ p _ _ _ _ _ _ _ _ (c.vector_message-message.ensures _) c.message_size.ensures _ _ _
+    c.if-out-message_size.false c.put_vector_message-count.ensures refl
 
-pub send-spec : {M : Type 1} → statement M
-send-spec =
+pub send_spec : {M : Type 1} → statement M
+send_spec =
     tie.close
     (tie.spec
     (λ c κs. search rules) (λ c κs. search rules)
