@@ -1,4 +1,6 @@
 // Start and reset.
+#![tactic(auto)]
+
 pub mod reset;
 pub mod start;
 pub mod started;

@@ -7,45 +7,34 @@ use Rattle.lifecycle.proofs.reset.reset_core.Statement.{statement}
 use Rattle.lifecycle.proofs.reset.reset_core.Tie as tie
 
 -- the packet owed and its size are known
-module _ (c : tie.After-owed-size) where
-  abbrev at-set-wire : tie.After-set-wire
+module _ (c : tie.After-owed_size) where
+  abbrev at-set-wire : tie.After-set_wire-wired
   at-set-wire = c.before
 
   abbrev start : tie.Start
-  start = let entry = at-set-wire.before.before in entry.before.before.before
+  start = c.before.before.before.before.before.before
 
-returns : tie.Need-returns
+returns : tie.Need-returns-then-out-owed_size
 returns c =
-    let at-if1 = c.before in
-    let sized = at-if1.before in
-    reset-short _ _ _ _ (start sized).args.k _ (start sized).requires.1 _ (at-set-wire sized).set-wire.ensures _ _ sized.owed-size.ensures at-if1.if1.true
+    reset-short _ _ _ _ c.args.k _ c.requires.1 _ c.set_wire-wired.ensures _ _ c.owed_size.ensures c.if-out-owed_size.true
     c.refused.ensures
 
-send-requires : tie.Need-send-requires
+send-requires : tie.Need-send-count-requires
 send-requires c κs =
-    let at-if1 = c.before in
-    let sized = at-if1.before in
-    let begin = start sized in
-    (wires-pin begin.pre.0 _ begin.pre.1, omega (arith, at-if1.if1.false, sized.owed-size.ensures))
+    (wires-pin c.requires.0 _ c.requires.1, omega (arith, c.if-out-owed_size.false, c.owed_size.ensures))
 
-started-requires : tie.Need-started-requires
+started-requires : tie.Need-started-function-requires
 started-requires c κs =
-    let at-send = c.before.before.before.before.before.before in
-    let at-if1 = at-send.before.before in
-    let run = (start at-if1.before).pre.0 in
+    let run = c.requires.0 in
     (run.shaped, running_fit run, run.profiled.form)
 
-returns-2 : tie.Need-returns-2
+returns-2 : tie.Need-returns
 returns-2 c =
-    let at-started = c.before.before.before.before.before in
-    let at-send = at-started.before.before.before.before.before.before.before in
-    let at-if1 = at-send.before.before in
-    let sized = at-if1.before in
-    reset-done _ _ _ _ (start sized).args.k _ (start sized).requires.1 _ (at-set-wire sized).set-wire.ensures _ _ _ _ _ _ _ sized.owed-size.ensures at-if1.if1.false
-    at-send.send.ensures at-started.started.ensures c.accepted.ensures
+    reset-done _ _ _ _ c.args.k _ c.requires.1 _ c.set_wire-wired.ensures _ _ _ _ _ _ _ c.owed_size.ensures c.if-out-owed_size.false
+    c.send-count.ensures c.started-function.ensures c.accepted.ensures
 
-pub reset-core-spec : {M : Type 1} → statement M
-reset-core-spec =
+pub reset_core_spec : {M : Type 1} → statement M
+reset_core_spec =
     tie.close
     (tie.spec
     (λ c κs. search rules) (λ c κs. search rules) (λ c κs. search rules)
