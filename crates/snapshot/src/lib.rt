@@ -1,4 +1,6 @@
 // Saving and restoring a card.
+#![tactic(auto)]
+
 pub mod held;
 pub mod restore;
 pub mod save;

@@ -1,9 +1,9 @@
 -- The checks in their order, one law for each refusal; what the image passed is gathered in `saved`. Assumes nothing.
+use Rattle.std.proofs.lemmas.Bool.{not_from_false, not_from_true}
 use mathlib.Core.Path.{◌≡◌, sym, ◌∙◌}
 use mathlib.Core.Bool.{true}
 use lib.ListN.{take}
 use native.Mathlib.Omega.{arith}
-use borrow.Author.Tests.{not-false}
 use Rattle.words.specs.Lists.{same}
 use Rattle.words.specs.Bytes.{word16}
 use Rattle.model.specs.Image.{mark}
@@ -13,109 +13,87 @@ use Rattle.snapshot.proofs.restore.restore.Statement.{statement}
 use Rattle.snapshot.proofs.restore.restore.Tie as tie
 
 -- the image has its mark and version 1
-module _ (c : tie.Else3) where
+module _ (c : tie.Else-version-ne-VERSION) where
   abbrev at-version : tie.After-version
   at-version = c.before
 
-  abbrev at-is-marked : tie.After-is-marked
-  at-is-marked = let at-if2 = at-version.before in at-if2.before
+  abbrev at-is-marked : tie.After-is_marked
+  at-is-marked = c.before.before.before
 
-  abbrev at-if1 : tie.Else1
-  at-if1 = at-is-marked.before
+  abbrev at-if1 : tie.Else-image-lt-TABLE
+  at-if1 = c.before.before.before.before
 
   abbrev start : tie.Start
-  start = let entry = at-if1.before in entry.before.before.before
+  start = c.before.before.before.before.before.before.before.before
 
-  image_passed : (same (take 3 start.args.image.now) mark ≡ true) × (word16 start.args.image.now 3 ≡ 1)
+  image_passed : (same (take 3 c.args.image.now) mark ≡ true) × (word16 c.args.image.now 3 ≡ 1)
   image_passed =
-      is-image _ at-if1.if1.left _ at-is-marked.is-marked.ensures at-version.before.if2.left _ at-version.version.ensures c.if3.false
+      is-image _ c.if-image-lt-TABLE.false _ c.is_marked.ensures (not_from_true _ c.if-not-is_marked.false) _ c.version.ensures c.if-version-ne-VERSION.false
 
 -- it passed every check but 17
-module _ (c : tie.Else4) where
-  abbrev at-table-length : tie.After-table-length
-  at-table-length = let at-is-saved = c.before in at-is-saved.before
+module _ (c : tie.Else-not-is_saved) where
+  abbrev at-table-length : tie.After-table_length-n
+  at-table-length = c.before.before
 
-  abbrev at-held-card : tie.After-held-card
-  at-held-card = at-table-length.before
+  abbrev at-held-card : tie.After-held_card-held
+  at-held-card = c.before.before.before
 
-  abbrev at-if3 : tie.Else3
-  at-if3 = at-held-card.before
+  abbrev at-if3 : tie.Else-version-ne-VERSION
+  at-if3 = c.before.before.before.before
 
-  saved : Saved (start at-if3).args.image.now at-held-card.held-card.result at-table-length.table-length.result
+  saved : Saved c.args.image.now c.held_card-held.result c.table_length-n.result
   saved = record {
-    long = (at-if1 at-if3).if1.left;
-    image = image_passed at-if3;
-    saved = sym c.before.is-saved.ensures ∙ not-false _ c.if4.false;
-    is_card = at-held-card.held-card.ensures;
-    is_length = at-table-length.table-length.ensures.0;
+    long = c.if-image-lt-TABLE.false;
+    image = image_passed c.before.before.before.before;
+    saved = sym c.is_saved.ensures ∙ c.if-not-is_saved.false;
+    is_card = c.held_card-held.ensures;
+    is_length = c.table_length-n.ensures.0;
   }
 
-returns : tie.Need-returns
-returns c = no_image _ _ _ _ _ c.before.if1.true c.refused.ensures
+returns : tie.Need-returns-then-image-lt-TABLE
+returns c = no_image _ _ _ _ _ c.if-image-lt-TABLE.true c.refused.ensures
 
-returns-2 : tie.Need-returns-2
+returns-2 : tie.Need-returns-then-not-is_marked
 returns-2 c =
-    let at-if2 = c.before in
-    let at-is-marked = at-if2.before in
-    let at-if1 = at-is-marked.before in
-    no_mark _ at-if1.if1.false _ at-is-marked.is-marked.ensures _ _ _ _ at-if2.if2.true c.refused2.ensures
+    no_mark _ c.if-image-lt-TABLE.false _ c.is_marked.ensures _ _ _ _ (not_from_false _ c.if-not-is_marked.true) c.refused-then-not-is_marked.ensures
 
-returns-3 : tie.Need-returns-3
+returns-3 : tie.Need-returns-then-version-ne-VERSION
 returns-3 c =
-    let at-if3 = c.before in
-    let at-version = at-if3.before in
-    let at-if2 = at-version.before in
-    let at-is-marked = at-if2.before in
-    let at-if1 = at-is-marked.before in
-    other_version _ at-if1.if1.false _ at-is-marked.is-marked.ensures at-if2.if2.false _ at-version.version.ensures _ _ _ _
-    at-if3.if3.true c.refused3.ensures
+    other_version _ c.if-image-lt-TABLE.false _ c.is_marked.ensures (not_from_true _ c.if-not-is_marked.false) _ c.version.ensures _ _ _ _
+    c.if-version-ne-VERSION.true c.refused-then-version-ne-VERSION.ensures
 
-is-saved-requires : tie.Need-is-saved-requires
+is-saved-requires : tie.Need-is_saved-requires
 is-saved-requires c κs =
-    let at_held = c.before in
-    let past_3 = at_held.before in
-    let e = image_passed past_3 in
-    ((at-if1 past_3).if1.false, e.0, e.1, at_held.held-card.ensures, c.table-length.ensures.0, c.table-length.ensures.1)
+    let e = image_passed c.before.before in
+    (c.if-image-lt-TABLE.false, e.0, e.1, c.held_card-held.ensures, c.table_length-n.ensures.0, c.table_length-n.ensures.1)
 
-returns-4 : tie.Need-returns-4
+returns-4 : tie.Need-returns-then-not-is_saved
 returns-4 c =
-    let at-if4 = c.before in
-    let at-is-saved = at-if4.before in
-    let past_3 = at-is-saved.before.before.before in
-    not_saved _ (at-if1 past_3).if1.false (image_passed past_3) _ at-is-saved.is-saved.ensures _ _ _ _ at-if4.if4.true c.refused4.ensures
+    not_saved _ c.if-image-lt-TABLE.false (image_passed c.before.before.before.before.before) _ c.is_saved.ensures _ _ _ _ (not_from_false _ c.if-not-is_saved.true) c.refused-then-not-is_saved.ensures
 
-returns-5 : tie.Need-returns-5
-returns-5 c = other-table _ _ _ (saved c.before.before) _ _ _ _ c.before.if5.true c.refused5.ensures
+returns-5 : tie.Need-returns-then-table-n
+returns-5 c = other-table _ _ _ (saved c.before.before) _ _ _ _ c.if-table-n.true c.refused-then-table-n.ensures
 
-sub-if6-2 : tie.Need-overflow-sub-if6-2
+sub-if6-2 : tie.Need-overflow_sub-image-2
 sub-if6-2 c = omega (arith, room _ _ _ (saved c.before))
 
-returns-6 : tie.Need-returns-6
+returns-6 : tie.Need-returns-then-pending-image
 returns-6 c =
-    let at-if6 = c.before in
-    let at-if5 = at-if6.before in
-    other-pending _ _ _ (saved at-if5.before) _ _ _ at-if5.if5.false _ at-if6.if6.true c.refused6.ensures
+    other-pending _ _ _ (saved c.before.before.before) _ _ _ c.if-table-n.false _ c.if-pending-image.true c.refused-then-pending-image.ensures
 
-copy-buffers-requires : tie.Need-copy-buffers-requires
+copy-buffers-requires : tie.Need-copy_buffers-requires
 copy-buffers-requires c κs =
-    let at-if6 = c.before.before in
-    let at-if5 = at-if6.before in
-    let past_4 = at-if5.before in
-    let a = (start (at-if3 past_4)).args in
-    filled _ _ _ (saved past_4) a.card a.table.now a.pending.now at-if5.if5.false at-if6.if6.false
+    let a = c.args in
+    filled _ _ _ (saved c.before.before.before.before) a.card a.table.now a.pending.now c.if-table-n.false c.if-pending-image.false
 
-returns-7 : tie.Need-returns-7
+returns-7 : tie.Need-returns
 returns-7 c =
-    let at-copy-buffers = c.before.before.before.before.before in
-    let at-if6 = at-copy-buffers.before.before.before in
-    let at-if5 = at-if6.before in
-    let past_4 = at-if5.before in
-    let a = (start (at-if3 past_4)).args in
-    restored _ _ _ (saved past_4) _ a.table.now a.pending.now at-if5.if5.false at-if6.if6.false _ _ _
-    at-copy-buffers.copy-buffers.ensures.0 at-copy-buffers.copy-buffers.ensures.1 c.accepted.ensures
+    let a = c.args in
+    restored _ _ _ (saved c.before.before.before.before.before.before.before.before.before.before) _ a.table.now a.pending.now c.if-table-n.false c.if-pending-image.false _ _ _
+    c.copy_buffers.ensures.0 c.copy_buffers.ensures.1 c.accepted.ensures
 
-pub restore-spec : {M : Type 1} → statement M
-restore-spec =
+pub restore_spec : {M : Type 1} → statement M
+restore_spec =
     tie.close
     (tie.spec
     (λ c κs. search rules)

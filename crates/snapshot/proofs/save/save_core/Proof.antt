@@ -14,42 +14,34 @@ bytes : (c : tie.Start) → length c.args.card.function.config ≡ 256
 bytes c = search rules
 
 -- the image's layout and length are known
-module _ (c : tie.After-len) where
+module _ (c : tie.After-len-size) where
   abbrev at_new : tie.After-new
   at_new = c.before
 
   abbrev start : tie.Start
-  start = let entry = at_new.before in entry.before.before.before
+  start = c.before.before.before.before.before
 
-len-requires : tie.Need-len-requires
+len-requires : tie.Need-len-size-requires
 len-requires c κs =
-    let start = c.before.before.before.before in
-    size_fits _ _ _ _ c.new.ensures _ start.requires
+    size_fits _ _ _ _ c.new.ensures _ c.requires
 
-returns : tie.Need-returns
+returns : tie.Need-returns-then-out-size
 returns c =
-    let at-if1 = c.before in
-    let sized = at-if1.before in
-    save-short _ _ _ _ (at_new sized).new.ensures _ sized.len.ensures _ (sizes (start sized)) (bytes (start sized)) _ at-if1.if1.true
+    save-short _ _ _ _ c.new.ensures _ c.len-size.ensures _ (sizes (start c.before.before)) (bytes (start c.before.before)) _ c.if-out-size.true
     c.refused.ensures
 
-put-image-requires : tie.Need-put-image-requires
+put-image-requires : tie.Need-put_image-n-requires
 put-image-requires c κs =
-    let at-if1 = c.before in
-    let sized = at-if1.before in
-    let a = (start sized).args in
-    output-fits a.card a.table.now a.pending.now _ (at_new sized).new.ensures _ sized.len.ensures a.out.now at-if1.if1.false
+    let a = c.args in
+    output-fits a.card a.table.now a.pending.now _ c.new.ensures _ c.len-size.ensures a.out.now c.if-out-size.false
 
-returns-2 : tie.Need-returns-2
+returns-2 : tie.Need-returns
 returns-2 c =
-    let at-put-image = c.before.before.before in
-    let at-if1 = at-put-image.before.before in
-    let sized = at-if1.before in
-    save-accepted _ _ _ _ (at_new sized).new.ensures _ sized.len.ensures _ (sizes (start sized)) (bytes (start sized)) _ _ _ at-if1.if1.false
-    at-put-image.put-image.ensures c.accepted.ensures
+    save-accepted _ _ _ _ c.new.ensures _ c.len-size.ensures _ (sizes (start c.before.before.before.before.before.before)) (bytes (start c.before.before.before.before.before.before)) _ _ _ c.if-out-size.false
+    c.put_image-n.ensures c.accepted.ensures
 
-pub save-core-spec : {M : Type 1} → statement M
-save-core-spec =
+pub save_core_spec : {M : Type 1} → statement M
+save_core_spec =
     tie.close
     (tie.spec
     (λ c κs. search rules)

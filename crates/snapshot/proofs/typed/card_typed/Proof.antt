@@ -47,5 +47,5 @@ returns c table pending = record {
   waiting = waiting-small c;
 }
 
-pub card-typed-spec : {M : Type 1} → statement M
-card-typed-spec = tie.close (tie.spec returns)
+pub card_typed_spec : {M : Type 1} → statement M
+card_typed_spec = tie.close (tie.spec returns)
