@@ -7,6 +7,7 @@ use crate::row::Row;
 use crate::run::Run;
 use card::outcome::Outcome;
 use model::Answer;
+use std::io::{self, Write};
 use tlp::decode::{Level, Message, Packet};
 use words::parts::part;
 
@@ -17,253 +18,255 @@ mod row;
 mod run;
 mod table;
 
-// Text to standard output: the contracts of the kit's `io` do not say what is written there.
-fn text(s: &[u8]) {
-    io::write_all(1, s);
+// Text to standard output: no contract says what is written there. A write that fails is passed over, since what the
+// cases give does not depend on it.
+fn text(rt: &impl Print, s: &[u8]) {
+    let mut out = io::writer(rt);
+    let _ = out.write_all(s);
 }
 
-fn decimal(n: u64) {
-    io::print_decimal(1, n);
+fn decimal(rt: &impl Print, n: u64) {
+    let _ = rt.print(n);
 }
 
 // Hexadecimal digits, as document 01 writes them.
 const DIGITS: [u8; 16] = *b"0123456789ABCDEF";
 
 // One, two, four and eight bytes, the highest first.
-fn hex8(x: u8) {
+fn hex8(rt: &impl Print, x: u8) {
     let two = [DIGITS[(x / 16) as usize], DIGITS[(x % 16) as usize]];
-    text(&two);
+    text(rt, &two);
 }
 
-fn hex16(x: u16) {
-    hex8((x / 256 % 256) as u8);
-    hex8((x % 256) as u8);
+fn hex16(rt: &impl Print, x: u16) {
+    hex8(rt, (x / 256 % 256) as u8);
+    hex8(rt, (x % 256) as u8);
 }
 
-fn hex32(x: u32) {
-    hex16((x / 65536 % 65536) as u16);
-    hex16((x % 65536) as u16);
+fn hex32(rt: &impl Print, x: u32) {
+    hex16(rt, (x / 65536 % 65536) as u16);
+    hex16(rt, (x % 65536) as u16);
 }
 
-fn hex64(x: u64) {
-    hex32((x / 4294967296 % 4294967296) as u32);
-    hex32((x % 4294967296) as u32);
+fn hex64(rt: &impl Print, x: u64) {
+    hex32(rt, (x / 4294967296 % 4294967296) as u32);
+    hex32(rt, (x % 4294967296) as u32);
 }
 
 // The low `width` bytes of a number.
-fn number(value: u64, width: u8) {
+fn number(rt: &impl Print, value: u64, width: u8) {
     match width {
-        1 => hex8((value % 256) as u8),
-        2 => hex16((value % 65536) as u16),
-        4 => hex32((value % 4294967296) as u32),
-        _ => hex64(value),
+        1 => hex8(rt, (value % 256) as u8),
+        2 => hex16(rt, (value % 65536) as u16),
+        4 => hex32(rt, (value % 4294967296) as u32),
+        _ => hex64(rt, value),
     }
-    text(b"h");
+    text(rt, b"h");
 }
 
 // Bytes in the order of a list, with blanks between.
-fn bytes(s: &[u8]) {
+fn bytes(rt: &impl Print, s: &[u8]) {
     let mut i = 0;
     while i < s.len() {
         if i != 0 {
-            text(b" ");
+            text(rt, b" ");
         }
-        hex8(s[i]);
+        hex8(rt, s[i]);
         i += 1;
     }
 }
 
-fn print_level(l: Level) {
-    text(b"pin ");
-    decimal(l.pin as u64);
+fn print_level(rt: &impl Print, l: Level) {
+    text(rt, b"pin ");
+    decimal(rt, l.pin as u64);
     if l.active {
-        text(b" asserted, requester ");
+        text(rt, b" asserted, requester ");
     } else {
-        text(b" deasserted, requester ");
+        text(rt, b" deasserted, requester ");
     }
-    hex16(l.requester);
-    text(b"h\n");
+    hex16(rt, l.requester);
+    text(rt, b"h\n");
 }
 
-fn print_message(m: Message) {
-    text(b"message to ");
-    hex32(m.upper);
-    hex32(m.address);
-    text(b"h, data ");
-    hex32(m.value);
-    text(b"h, requester ");
-    hex16(m.requester);
-    text(b"h\n");
+fn print_message(rt: &impl Print, m: Message) {
+    text(rt, b"message to ");
+    hex32(rt, m.upper);
+    hex32(rt, m.address);
+    text(rt, b"h, data ");
+    hex32(rt, m.value);
+    text(rt, b"h, requester ");
+    hex16(rt, m.requester);
+    text(rt, b"h\n");
 }
 
 // A packet: a line with its bytes, and one with what they mean.
-fn print_packet(s: &[u8]) {
-    text(b"    ");
-    bytes(s);
-    text(b"\n    ");
+fn print_packet(rt: &impl Print, s: &[u8]) {
+    text(rt, b"    ");
+    bytes(rt, s);
+    text(rt, b"\n    ");
     let packet = tlp::decode::decode(s);
     match packet {
-        Packet::Message(m) => print_message(m),
-        Packet::Wire(l) => print_level(l),
-        Packet::Other => text(b"no packet of document 01\n"),
+        Packet::Message(m) => print_message(rt, m),
+        Packet::Wire(l) => print_level(rt, l),
+        Packet::Other => text(rt, b"no packet of document 01\n"),
     }
 }
 
 // Packets that stand one after another.
-fn print_packets(s: &[u8]) {
+fn print_packets(rt: &impl Print, s: &[u8]) {
     let mut at = 0;
     while at < s.len() {
         let rest = &s[at..];
         let n = tlp::decode::first_length(rest);
-        print_packet(part(rest, 0, n));
+        print_packet(rt, part(rest, 0, n));
         at += n;
     }
 }
 
 // A withdrawal's value says whether the vector was waiting; any other is shown with as many bytes as were read.
-fn print_value(row: Row, v: u64) {
+fn print_value(rt: &impl Print, row: Row, v: u64) {
     if row.kind != b'd' {
-        text(b"value ");
-        number(v, (row.b % 256) as u8);
+        text(rt, b"value ");
+        number(rt, v, (row.b % 256) as u8);
         return;
     }
     if v != 0 {
-        text(b"was set");
+        text(rt, b"was set");
     } else {
-        text(b"was not set");
+        text(rt, b"was not set");
     }
 }
 
-fn print_answer(row: Row, a: Answer) {
+fn print_answer(rt: &impl Print, row: Row, a: Answer) {
     match a {
         Answer::Refused(n) => {
-            text(b"refused with ");
-            decimal(n as u64);
+            text(rt, b"refused with ");
+            decimal(rt, n as u64);
         }
-        Answer::Done => text(b"done"),
-        Answer::Value(v) => print_value(row, v),
-        Answer::Sent => text(b"sent"),
-        Answer::Held => text(b"held"),
-        Answer::Merged => text(b"merged"),
-        Answer::Lost => text(b"lost"),
+        Answer::Done => text(rt, b"done"),
+        Answer::Value(v) => print_value(rt, row, v),
+        Answer::Sent => text(rt, b"sent"),
+        Answer::Held => text(rt, b"held"),
+        Answer::Merged => text(rt, b"merged"),
+        Answer::Lost => text(rt, b"lost"),
     }
-    text(b"\n");
+    text(rt, b"\n");
 }
 
-fn verdict(good: bool) {
+fn verdict(rt: &impl Print, good: bool) {
     if good {
-        text(b"    as the papers say\n");
+        text(rt, b"    as the papers say\n");
     } else {
-        text(b"    DIFFERENT\n");
+        text(rt, b"    DIFFERENT\n");
     }
 }
 
 // The state that no register access is needed for.
-fn print_state(run: Run) {
-    text(b"  state: line ");
+fn print_state(rt: &impl Print, run: Run) {
+    text(rt, b"  state: line ");
     if run.card.function.line {
-        text(b"high, wire ");
+        text(rt, b"high, wire ");
     } else {
-        text(b"low, wire ");
+        text(rt, b"low, wire ");
     }
     if run.card.wire {
-        text(b"active, MSI waiting bits ");
+        text(rt, b"active, MSI waiting bits ");
     } else {
-        text(b"inactive, MSI waiting bits ");
+        text(rt, b"inactive, MSI waiting bits ");
     }
-    hex32(run.card.function.waiting);
-    text(b"h");
+    hex32(rt, run.card.function.waiting);
+    text(rt, b"h");
     if run.vectors != 0 {
         let pending = run.pending;
-        text(b", pending array ");
-        bytes(&pending);
+        text(rt, b", pending array ");
+        bytes(rt, &pending);
     }
-    text(b"\n");
+    text(rt, b"\n");
 }
 
-fn print_config(config: [u8; 256]) {
-    text(b"  configuration: Status ");
-    hex8(config[0x06]);
-    text(b"h, list at ");
-    hex8(config[0x34]);
-    text(b"h, pin ");
-    decimal(config[0x3d] as u64);
-    text(b", bytes 40h to 4Bh: ");
-    bytes(&config[64..76]);
-    text(b"\n");
+fn print_config(rt: &impl Print, config: [u8; 256]) {
+    text(rt, b"  configuration: Status ");
+    hex8(rt, config[0x06]);
+    text(rt, b"h, list at ");
+    hex8(rt, config[0x34]);
+    text(rt, b"h, pin ");
+    decimal(rt, config[0x3d] as u64);
+    text(rt, b", bytes 40h to 4Bh: ");
+    bytes(rt, &config[64..76]);
+    text(rt, b"\n");
 }
 
-fn print_start(row: Row, bytes: &[u8]) {
+fn print_start(rt: &impl Print, row: Row, bytes: &[u8]) {
     let config = config::config_at(bytes, row.place);
-    print_config(config);
-    text(b"  start, E = ");
-    decimal(row.b as u64);
-    text(b", requester 0100h, BAR 0 of ");
-    hex32(row.c);
-    text(b"h bytes, BAR 1 of ");
-    hex32(row.a as u32);
-    text(b"h bytes: ");
+    print_config(rt, config);
+    text(rt, b"  start, E = ");
+    decimal(rt, row.b as u64);
+    text(rt, b", requester 0100h, BAR 0 of ");
+    hex32(rt, row.c);
+    text(rt, b"h bytes, BAR 1 of ");
+    hex32(rt, row.a as u32);
+    text(rt, b"h bytes: ");
 }
 
 // Offset and width of an access, and the value that is written.
-fn print_access(row: Row, offset_width: u8, writes: bool) {
-    number(row.a as u64, offset_width);
-    text(b", ");
-    decimal(row.b as u64);
-    text(b" bytes");
+fn print_access(rt: &impl Print, row: Row, offset_width: u8, writes: bool) {
+    number(rt, row.a as u64, offset_width);
+    text(rt, b", ");
+    decimal(rt, row.b as u64);
+    text(rt, b" bytes");
     if writes {
-        text(b", ");
-        number(row.c as u64, (row.b % 256) as u8);
+        text(rt, b", ");
+        number(rt, row.c as u64, (row.b % 256) as u8);
     }
-    text(b": ");
+    text(rt, b": ");
 }
 
-fn print_event(row: Row) {
-    text(b"  event ");
-    decimal(row.a as u64);
-    text(b", output of ");
-    decimal(row.b as u64);
-    text(b" bytes: ");
+fn print_event(rt: &impl Print, row: Row) {
+    text(rt, b"  event ");
+    decimal(rt, row.a as u64);
+    text(rt, b", output of ");
+    decimal(rt, row.b as u64);
+    text(rt, b" bytes: ");
 }
 
-fn print_withdrawal(row: Row) {
-    text(b"  withdraw vector ");
-    decimal(row.a as u64);
-    text(b": ");
+fn print_withdrawal(rt: &impl Print, row: Row) {
+    text(rt, b"  withdraw vector ");
+    decimal(rt, row.a as u64);
+    text(rt, b": ");
 }
 
 // The start of a call's line: its arguments.
-fn print_call(row: Row, bytes: &[u8]) {
+fn print_call(rt: &impl Print, row: Row, bytes: &[u8]) {
     let letter = row.kind;
     match letter {
-        b's' => print_start(row, bytes),
+        b's' => print_start(rt, row, bytes),
         b'r' => {
-            text(b"  configuration read at ");
-            print_access(row, 1, false);
+            text(rt, b"  configuration read at ");
+            print_access(rt, row, 1, false);
         }
         b'w' => {
-            text(b"  configuration write at ");
-            print_access(row, 1, true);
+            text(rt, b"  configuration write at ");
+            print_access(rt, row, 1, true);
         }
         b'R' => {
-            text(b"  BAR 0 read at ");
-            print_access(row, 2, false);
+            text(rt, b"  BAR 0 read at ");
+            print_access(rt, row, 2, false);
         }
         b'W' => {
-            text(b"  BAR 0 write at ");
-            print_access(row, 2, true);
+            text(rt, b"  BAR 0 write at ");
+            print_access(rt, row, 2, true);
         }
-        b'e' => print_event(row),
-        b'd' => print_withdrawal(row),
+        b'e' => print_event(rt, row),
+        b'd' => print_withdrawal(rt, row),
         b'l' => if row.b != 0 {
-            text(b"  line high: ")
+            text(rt, b"  line high: ")
         } else {
-            text(b"  line low: ")
+            text(rt, b"  line low: ")
         },
         _ => {
-            text(b"  save, output of ");
-            decimal(row.b as u64);
-            text(b" bytes: ");
+            text(rt, b"  save, output of ");
+            decimal(rt, row.b as u64);
+            text(rt, b" bytes: ");
         }
     }
 }
@@ -284,22 +287,22 @@ fn zeros(s: &[u8]) -> usize
 }
 
 // The first ten bytes of an image, and how many of the others are 0.
-fn print_image(image: &[u8]) {
+fn print_image(rt: &impl Print, image: &[u8]) {
     let rest = part(image, 10, image.len());
-    text(b"    ");
-    bytes(part(image, 0, 10));
-    text(b"\n    then ");
-    decimal(rest.len() as u64);
-    text(b" bytes, of which ");
-    decimal(zeros(rest) as u64);
-    text(b" are 0\n");
+    text(rt, b"    ");
+    bytes(rt, part(image, 0, 10));
+    text(rt, b"\n    then ");
+    decimal(rt, rest.len() as u64);
+    text(rt, b" bytes, of which ");
+    decimal(rt, zeros(rest) as u64);
+    text(rt, b" are 0\n");
 }
 
-fn print_comparison(same: bool) {
+fn print_comparison(rt: &impl Print, same: bool) {
     if same {
-        text(b"  the two images are the same\n");
+        text(rt, b"  the two images are the same\n");
     } else {
-        text(b"  the two images differ\n");
+        text(rt, b"  the two images differ\n");
     }
 }
 
@@ -309,59 +312,59 @@ fn is_result(row: Row) -> bool {
 }
 
 // The end of a call's line, its packets or image, and whether it gave what it should.
-fn print_result(row: Row, o: Outcome, out: &[u8], good: bool) {
+fn print_result(rt: &impl Print, row: Row, o: Outcome, out: &[u8], good: bool) {
     let answer = o.answer;
-    print_answer(row, answer);
+    print_answer(rt, row, answer);
     let sent = part(out, 0, o.count);
     let letter = row.kind;
     match letter {
-        b'i' => print_image(sent),
-        b'c' => print_comparison(good),
+        b'i' => print_image(rt, sent),
+        b'c' => print_comparison(rt, good),
         b'k' => {}
-        _ => print_packets(sent),
+        _ => print_packets(rt, sent),
     }
     if !good | is_result(row) {
-        verdict(good);
+        verdict(rt, good);
     }
 }
 
-fn print_after(row: Row, run: Run) {
+fn print_after(rt: &impl Print, row: Row, run: Run) {
     if row.shown != b'-' {
-        print_state(run);
+        print_state(rt, run);
     }
 }
 
-fn print_title(row: Row, bytes: &[u8]) {
-    text(part(bytes, row.place as usize, row.size as usize));
+fn print_title(rt: &impl Print, row: Row, bytes: &[u8]) {
+    text(rt, part(bytes, row.place as usize, row.size as usize));
 }
 
 // 1 for a case that is as the papers say.
-fn one(number: u8) -> u64
+fn one(rt: &impl Print, number: u8) -> u64
     requires { (1 ≤ number) × (number ≤ case_count) }
     ensures { result ≡ 1 }
 {
-    let good = play::case(number);
-    text(b"\n");
+    let good = play::case(rt, number);
+    text(rt, b"\n");
     if good { 1 } else { 0 }
 }
 
 // How many of the cases are as the papers say.
-fn passed() -> u64
+fn passed(rt: &impl Print) -> u64
     ensures { result ≡ case_count }
 {
     let mut n: u64 = 0;
     let mut number: u8 = 1;
     while number <= table::CASE_COUNT {
-        n += one(number);
+        n += one(rt, number);
         number += 1;
     }
     n
 }
 
-fn main() {
-    let n = passed();
-    decimal(n);
-    text(b" of ");
-    decimal(table::CASE_COUNT as u64);
-    text(b" cases are as the papers say\n");
+fn main(rt: HostRuntime) {
+    let n = passed(&rt);
+    decimal(&rt, n);
+    text(&rt, b" of ");
+    decimal(&rt, table::CASE_COUNT as u64);
+    text(&rt, b" cases are as the papers say\n");
 }

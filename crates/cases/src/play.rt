@@ -16,10 +16,10 @@ use words::parts::part;
 const FRESH: [u8; 300] = [0xee; 300];
 
 // A row's call, printed, and compared with what it should give.
-fn play_call(run: Run, row: Row, bytes: &[u8]) -> Run
+fn play_call(rt: &impl Print, run: Run, row: Row, bytes: &[u8]) -> Run
     ensures { seen result ≡ played (seen run) (Play.does (operation_of bytes.now row) (bytes_at bytes.now row.place row.size) (answer_of row)) }
 {
-    crate::print_call(row, bytes);
+    crate::print_call(rt, row, bytes);
     let called = crate::calls::call(run, row, bytes);
     let o = called.outcome;
     let given = o.answer;
@@ -31,36 +31,36 @@ fn play_call(run: Run, row: Row, bytes: &[u8]) -> Run
     let good = same_answer(given, answer)
         & (o.count == expected.len())
         & words::compare::is_over(sent, expected, part(&FRESH, 0, n));
-    crate::print_result(row, o, sent, good);
+    crate::print_result(rt, row, o, sent, good);
     let next = called.run;
     let after = judge(next, good);
-    crate::print_after(row, after);
+    crate::print_after(rt, row, after);
     after
 }
 
 // One step.
-fn play(run: Run, row: Row, bytes: &[u8]) -> Run
+fn play(rt: &impl Print, run: Run, row: Row, bytes: &[u8]) -> Run
     ensures { seen result ≡ played (seen run) (step_of bytes.now row) }
 {
     if row.kind == b'n' {
-        crate::print_title(row, bytes);
+        crate::print_title(rt, row, bytes);
         return crate::run::lend(run, row.b);
     }
-    play_call(run, row, bytes)
+    play_call(rt, run, row, bytes)
 }
 
 // One step, if it belongs to the case.
-fn play_row(run: Run, number: u8, row: Row, bytes: &[u8]) -> Run
+fn play_row(rt: &impl Print, run: Run, number: u8, row: Row, bytes: &[u8]) -> Run
     ensures { seen result ≡ played_all (seen run) (row_steps number bytes.now row) }
 {
     if row.number == number {
-        return play(run, row, bytes);
+        return play(rt, run, row, bytes);
     }
     run
 }
 
 // Whether the case with this number is as the papers say.
-pub fn case(number: u8) -> bool
+pub fn case(rt: &impl Print, number: u8) -> bool
     ensures { 1 ≤ number → number ≤ case_count → result ≡ true }
 {
     let table = crate::table::bench();
@@ -70,7 +70,7 @@ pub fn case(number: u8) -> bool
     let mut i = 0;
     while i < ROW_COUNT {
         let row = crate::row::row_at(&rows, i);
-        run = play_row(run, number, row, &bytes);
+        run = play_row(rt, run, number, row, &bytes);
         i += 1;
     }
     run.good
