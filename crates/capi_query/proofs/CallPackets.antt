@@ -25,7 +25,7 @@ use Rattle.model.specs.World.{World, Endpoint, Registers, registers, with_regist
 use Rattle.model.specs.Vectors.{command_bit, mode_of, granted, enabled, is_open, waits, vector_of, vector_count, owed}
 use Rattle.model.specs.Packets.{msi_address, msi_upper, msi_data, entry_message, message_of}
 use Rattle.model.specs.Release.{Raised, pin_number, is_pin, level_due, wire_due, wire_due_of, wire_change, bytes_for, sweep_bytes, settle_bytes, raise_vector, raise, raised_by}
-use Rattle.model.specs.Sound.{shape, given_of, zero_bits}
+use Rattle.model.specs.Sound.{shape, zero_bits}
 use Rattle.model.specs.Ready.{Ready}
 use Rattle.model.specs.Claims.{Typed}
 use Rattle.model.specs.Calls.{Call, Outcome, config_read, config_write, bar_read, bar_write, event, line, reset, save, withdraw, is_save, changed, sends, step}

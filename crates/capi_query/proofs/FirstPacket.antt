@@ -17,7 +17,6 @@ use Rattle.model.proofs.Vectors.PacketLaws.{message-length, wire-length}
 use Rattle.tlp.specs.declared.decode.Message as Message
 use Rattle.tlp.specs.declared.decode.Level.{Level}
 use Rattle.tlp.specs.declared.decode.Packet.{Packet}
-use Rattle.tlp.specs.declared.decode.Packet.TheVariants as Packet
 use Rattle.tlp.specs.Decoded.{decoded, first_length}
 use Rattle.tlp.proofs.RoundTrip as RoundTrip
 use Rattle.tlp.proofs.RoundTrip.{IsMessage, IsWire, wire_decodes, message_decodes, decoded-message, decoded-wire}

@@ -13,7 +13,7 @@ use Rattle.words.proofs.ListLaws.{Holds, holds_head, holds_tail}
 use Rattle.model.specs.Packets.{message, wire_message}
 use Rattle.model.proofs.Vectors.PacketLaws.{message-length, wire-length}
 use Rattle.capi_query.specs.declared.packets.Fields.{Fields}
-use Rattle.capi_query.specs.Fields.{fields, first_fields}
+use Rattle.capi_query.specs.Fields.{first_fields}
 use Rattle.capi_query.specs.Claims.{Stands, message_first, wire_first, packet_of, packets_of, Walked, done, next}
 use Rattle.capi_query.proofs.FirstPacket.{first-message, first-wire, packet_exact}
 

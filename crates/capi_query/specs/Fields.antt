@@ -4,7 +4,6 @@ use Rattle.words.specs.Bits.{of_bool}
 use Rattle.tlp.specs.declared.decode.Message as Message
 use Rattle.tlp.specs.declared.decode.Level.{Level}
 use Rattle.tlp.specs.declared.decode.Packet.{Packet}
-use Rattle.tlp.specs.declared.decode.Packet.TheVariants as Packet
 use Rattle.tlp.specs.Decoded.{decoded, first_length}
 use Rattle.capi_query.specs.declared.packets.Fields.{Fields}
 

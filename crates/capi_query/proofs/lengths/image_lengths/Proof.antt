@@ -1,5 +1,6 @@
 -- The checks of a restore in their order, one law for each refusal; that the image passed 20 and 21 is gathered in `image_passed`.
 -- Assumes nothing.
+use Rattle.std.proofs.lemmas.Bool.{not_from_false, not_from_true}
 use Rattle.model.proofs.Calls.RestoreCalls.{IsImage}
 use Rattle.snapshot.proofs.RestoreFor.{is-image}
 use Rattle.capi_query.proofs.LengthsFor.{too_short, no_mark, other_version, not_saved, image-told}
@@ -8,68 +9,55 @@ use Rattle.capi_query.proofs.lengths.image_lengths.Statement.{statement}
 use Rattle.capi_query.proofs.lengths.image_lengths.Tie as tie
 
 -- the image has its mark and version 1
-module _ (c : tie.Else3) where
+module _ (c : tie.Else-version-ne-VERSION) where
   abbrev at-version : tie.After-version
   at-version = c.before
 
-  abbrev at-if2 : tie.Else2
-  at-if2 = at-version.before
+  abbrev at-if2 : tie.Else-not-is_marked
+  at-if2 = c.before.before
 
-  abbrev at-is-marked : tie.After-is-marked
-  at-is-marked = at-if2.before
+  abbrev at-is-marked : tie.After-is_marked
+  at-is-marked = c.before.before.before
 
-  abbrev at-if1 : tie.Else1
-  at-if1 = at-is-marked.before
+  abbrev at-if1 : tie.Else-image-lt-TABLE
+  at-if1 = c.before.before.before.before
 
   abbrev start : tie.Start
-  start = at-if1.before.before
+  start = c.before.before.before.before.before.before
 
-  image_passed : IsImage start.args.image.now
+  image_passed : IsImage c.args.image.now
   image_passed =
-      let long = at-if1.if1.left in
-      let i = is-image _ long _ at-is-marked.is-marked.ensures at-if2.if2.left _ at-version.version.ensures c.if3.false in
+      let long = c.if-image-lt-TABLE.false in
+      let i = is-image _ long _ c.is_marked.ensures (not_from_true _ c.if-not-is_marked.false) _ c.version.ensures c.if-version-ne-VERSION.false in
       record { long = long; marked = i.0; version = i.1 }
 
-returns : tie.Need-returns
-returns c = too_short _ _ c.before.if1.true c.refused.ensures
+returns : tie.Need-returns-then-image-lt-TABLE
+returns c = too_short _ _ c.if-image-lt-TABLE.true c.refused.ensures
 
-returns-2 : tie.Need-returns-2
+returns-2 : tie.Need-returns-then-not-is_marked
 returns-2 c =
-    let at-if2 = c.before in
-    let at-is-marked = at-if2.before in
-    no_mark _ _ at-is-marked.before.if1.false _ at-is-marked.is-marked.ensures at-if2.if2.true c.refused2.ensures
+    no_mark _ _ c.if-image-lt-TABLE.false _ c.is_marked.ensures (not_from_false _ c.if-not-is_marked.true) c.refused-then-not-is_marked.ensures
 
-returns-3 : tie.Need-returns-3
+returns-3 : tie.Need-returns-then-version-ne-VERSION
 returns-3 c =
-    let at-if3 = c.before in
-    let at-version = at-if3.before in
-    let at-if2 = at-version.before in
-    let at-is-marked = at-if2.before in
-    other_version _ _ at-is-marked.before.if1.false _ at-is-marked.is-marked.ensures at-if2.if2.false _ at-version.version.ensures
-    at-if3.if3.true c.refused3.ensures
+    other_version _ _ c.if-image-lt-TABLE.false _ c.is_marked.ensures (not_from_true _ c.if-not-is_marked.false) _ c.version.ensures
+    c.if-version-ne-VERSION.true c.refused-then-version-ne-VERSION.ensures
 
-is-saved-requires : tie.Need-is-saved-requires
+is-saved-requires : tie.Need-is_saved-requires
 is-saved-requires c κs =
-    let at_held = c.before in
-    let i = image_passed at_held.before in
-    (i.long, i.marked, i.version, at_held.held-card.ensures, c.table-length.ensures.0, c.table-length.ensures.1)
+    let i = image_passed c.before.before in
+    (i.long, i.marked, i.version, c.held_card-held.ensures, c.table_length-n.ensures.0, c.table_length-n.ensures.1)
 
-returns-4 : tie.Need-returns-4
+returns-4 : tie.Need-returns-then-not-is_saved
 returns-4 c =
-    let at-if4 = c.before in
-    let at-is-saved = at-if4.before in
-    let past_3 = at-is-saved.before.before.before in
-    not_saved _ _ (image_passed past_3) _ at-is-saved.is-saved.ensures at-if4.if4.true c.refused4.ensures
+    not_saved _ _ (image_passed c.before.before.before.before.before) _ c.is_saved.ensures (not_from_false _ c.if-not-is_saved.true) c.refused-then-not-is_saved.ensures
 
-returns-5 : tie.Need-returns-5
+returns-5 : tie.Need-returns
 returns-5 c =
-    let at-if4 = c.before.before.before in
-    let at-is-saved = at-if4.before in
-    let at_held = at-is-saved.before.before in
-    image-told _ _ (image_passed at_held.before) _ at-is-saved.is-saved.ensures at-if4.if4.false _ at_held.held-card.ensures c.lengths-of.ensures
+    image-told _ _ (image_passed c.before.before.before.before.before.before.before) _ c.is_saved.ensures (not_from_true _ c.if-not-is_saved.false) _ c.held_card-held.ensures c.lengths_of.ensures
 
-pub image-lengths-spec : {M : Type 1} → statement M
-image-lengths-spec =
+pub image_lengths_spec : {M : Type 1} → statement M
+image_lengths_spec =
     tie.close
     (tie.spec
     (λ c κs. search rules)
