@@ -7,8 +7,7 @@ use crate::bytes::{hand_back, unread};
 use crate::narrow::narrow16;
 use image::get::card_of;
 
-#[unsafe(no_mangle)]
-pub extern "C" fn musgarento_event(
+pub fn musgarento_event(
     card: &mut [u8],
     table: &[u8],
     pending: &mut [u8],
@@ -35,8 +34,7 @@ pub extern "C" fn musgarento_event(
 }
 
 // Level 0 is low, any other high.
-#[unsafe(no_mangle)]
-pub extern "C" fn musgarento_line(
+pub fn musgarento_line(
     card: &mut [u8],
     table: &[u8],
     pending: &[u8],

@@ -7,8 +7,7 @@ use crate::bytes::{hand_back, numbers_of, unread};
 use image::format::Image;
 use image::get::card_of;
 
-#[unsafe(no_mangle)]
-pub extern "C" fn musgarento_save(
+pub fn musgarento_save(
     card: &[u8],
     table: &[u8],
     pending: &[u8],
@@ -32,13 +31,7 @@ pub extern "C" fn musgarento_save(
 }
 
 // Of the bytes of the card a restore asks only how many there are, and a refused one leaves them.
-#[unsafe(no_mangle)]
-pub extern "C" fn musgarento_restore(
-    card: &mut [u8],
-    table: &mut [u8],
-    pending: &mut [u8],
-    image: &[u8],
-) -> u8
+pub fn musgarento_restore(card: &mut [u8], table: &mut [u8], pending: &mut [u8], image: &[u8]) -> u8
     ensures { handed result card.new table.new pending.new [] 0 0 0
         ≡ crossed card.old table.old pending.old (restore image.now) }
 {

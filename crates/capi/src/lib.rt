@@ -1,4 +1,6 @@
 // The C interface: include/musgarento.h has its functions.
+#![tactic(auto)]
+
 pub mod bytes; // a card as bytes, for capi_log too
 pub mod events;
 mod given;

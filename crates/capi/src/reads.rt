@@ -7,8 +7,7 @@ use crate::bytes::{numbers_of, unread};
 use crate::narrow::{narrow8, narrow16, narrow32};
 use image::get::card_of;
 
-#[unsafe(no_mangle)]
-pub extern "C" fn musgarento_config_read(
+pub fn musgarento_config_read(
     card: &[u8],
     table: &[u8],
     pending: &[u8],
@@ -38,8 +37,7 @@ pub extern "C" fn musgarento_config_read(
     numbers.refusal
 }
 
-#[unsafe(no_mangle)]
-pub extern "C" fn musgarento_bar_read(
+pub fn musgarento_bar_read(
     card: &[u8],
     table: &[u8],
     pending: &[u8],

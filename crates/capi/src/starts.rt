@@ -10,8 +10,7 @@ use image::format::Image;
 use image::get::card_of;
 
 // A start reads no byte of the card.
-#[unsafe(no_mangle)]
-pub extern "C" fn musgarento_start(
+pub fn musgarento_start(
     card: &mut [u8],
     config: &[u8],
     sizes: &[u32],
@@ -46,8 +45,7 @@ pub extern "C" fn musgarento_start(
     numbers.refusal
 }
 
-#[unsafe(no_mangle)]
-pub extern "C" fn musgarento_reset(
+pub fn musgarento_reset(
     card: &mut [u8],
     table: &mut [u8],
     pending: &mut [u8],

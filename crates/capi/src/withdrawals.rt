@@ -8,8 +8,7 @@ use crate::narrow::narrow16;
 use image::get::card_of;
 use model::Vector;
 
-#[unsafe(no_mangle)]
-pub extern "C" fn musgarento_withdraw(
+pub fn musgarento_withdraw(
     card: &mut [u8],
     table: &[u8],
     pending: &mut [u8],

@@ -7,8 +7,7 @@ use crate::bytes::{hand_back, unread};
 use crate::narrow::{narrow8, narrow16, narrow32};
 use image::get::card_of;
 
-#[unsafe(no_mangle)]
-pub extern "C" fn musgarento_config_write(
+pub fn musgarento_config_write(
     card: &mut [u8],
     table: &[u8],
     pending: &mut [u8],
@@ -41,8 +40,7 @@ pub extern "C" fn musgarento_config_write(
     numbers.refusal
 }
 
-#[unsafe(no_mangle)]
-pub extern "C" fn musgarento_bar_write(
+pub fn musgarento_bar_write(
     card: &mut [u8],
     table: &mut [u8],
     pending: &mut [u8],

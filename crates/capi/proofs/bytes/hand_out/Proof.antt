@@ -15,10 +15,8 @@ config_known s = search rules
 
 returns : tie.Need-returns
 returns c =
-    let at-put-card = c.before.before.before in
-    let start = at-put-card.before.before.before.before in
-    let wrote = at-put-card.put-card.ensures in
-    (c.Numbers-of.ensures, card-written start.args.outcome.card start.args.bytes.now _ _ (sizes_known start) (config_known start) start.requires wrote)
+    let wrote = c.put_card.ensures in
+    (c.numbers_of.ensures, card-written c.args.outcome.card c.args.bytes.now _ _ (sizes_known c.before.before.before.before.before.before.before) (config_known c.before.before.before.before.before.before.before) c.requires wrote)
 
-pub hand-out-spec : {M : Type 1} → statement M
-hand-out-spec = tie.close (tie.spec (λ c κs. search rules) (λ c κs. search rules) (λ c. search rules) returns)
+pub hand_out_spec : {M : Type 1} → statement M
+hand_out_spec = tie.close (tie.spec (λ c κs. search rules) (λ c κs. search rules) (λ c. search rules) returns)

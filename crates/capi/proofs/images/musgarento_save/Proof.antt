@@ -12,46 +12,39 @@ use Rattle.capi.proofs.images.musgarento_save.Statement.{statement}
 use Rattle.capi.proofs.images.musgarento_save.Tie as tie
 
 -- what is called, as the test of the bytes finds it
-abbrev called : tie.After-unread → Call
+abbrev called : tie.After-unread-refusal → Call
 called c =
-    let start = c.before.before.before.before.before in
-    save start.args.out.now
+    save c.args.out.now
 
 -- the bytes of the card that it is lent
-abbrev lent : tie.After-unread → List ℕ
+abbrev lent : tie.After-unread-refusal → List ℕ
 lent c =
-    let start = c.before.before.before.before.before in
-    start.args.card.now
+    c.args.card.now
 
-returns : tie.Need-returns
-returns c = stopped _ _ _ (call (called c.before)) _ (c.before.unread.ensures _) c.if1.true
+returns : tie.Need-returns-then-refusal-ne0
+returns c = stopped _ _ _ (call (called c.before)) _ (c.unread-refusal.ensures _) c.if-refusal-ne0.true
 
 -- the bytes of the card that is read
-read : (c : tie.Else1) → Readable (lent c.before)
-read c = readable _ _ c.before.unread.ensures c.if1.false
+read : (c : tie.Else-refusal-ne0) → Readable (lent c.before)
+read c = readable _ _ c.unread-refusal.ensures c.if-refusal-ne0.false
 
-card-of-requires : tie.Need-card-of-requires
+card-of-requires : tie.Need-card_of-held-requires
 card-of-requires c κs = card-room (read c)
 
 -- the lent bytes are bytes
-bytes : (c : tie.After-unread) → Bytes (lent c)
+bytes : (c : tie.After-unread-refusal) → Bytes (lent c)
 bytes c i =
-    let at-known = c.before.before.before.before in
-    (at-known.shared-slice-known.given i).fits
+    (c.shared_slice_known-1.given i).fits
 
-returns-2 : tie.Need-returns-2
+returns-2 : tie.Need-returns
 returns-2 c =
-    let at-save = c.before.before.before in
-    let at-card-of = at-save.before.before in
-    let at-if1 = at-card-of.before in
-    let at-unread = at-if1.before in
-    let accepted = sym (at-unread.unread.ensures _) ∙ at-if1.if1.false in
-    saves-back _ _ _ (called at-unread) accepted _ at-card-of.card-of.ensures _ _ _ _
-    at-save.save.ensures _ c.Numbers-of.ensures (bytes at-unread) (read at-if1)
+    let accepted = sym (c.unread-refusal.ensures _) ∙ c.if-refusal-ne0.false in
+    saves-back _ _ _ (called c.before.before.before.before.before.before.before) accepted _ c.card_of-held.ensures _ _ _ _
+    c.save-outcome.ensures _ c.numbers_of-numbers.ensures (bytes c.before.before.before.before.before.before.before) (read c.before.before.before.before.before.before)
     (plain-call _ _ refl refl) (save_stays _ _)
 
-pub musgarento-save-spec : {M : Type 1} → statement M
-musgarento-save-spec =
+pub musgarento_save_spec : {M : Type 1} → statement M
+musgarento_save_spec =
     tie.close
     (tie.spec
     (λ c κs. search rules)

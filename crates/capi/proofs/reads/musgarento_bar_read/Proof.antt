@@ -13,51 +13,41 @@ use Rattle.capi.proofs.reads.musgarento_bar_read.Statement.{statement}
 use Rattle.capi.proofs.reads.musgarento_bar_read.Tie as tie
 
 -- what is called, as the test of the bytes finds it
-abbrev called : tie.After-unread → Call
+abbrev called : tie.After-unread-refusal → Call
 called c =
-    let start = c.before.before.before.before in
-    bar_read start.args.bar start.args.offset start.args.width
+    bar_read c.args.bar c.args.offset c.args.width
 
 -- the bytes of the card that it is lent
-abbrev lent : tie.After-unread → List ℕ
+abbrev lent : tie.After-unread-refusal → List ℕ
 lent c =
-    let start = c.before.before.before.before in
-    start.args.card.now
+    c.args.card.now
 
-returns : tie.Need-returns
-returns c = stopped _ _ _ (call (called c.before)) _ (c.before.unread.ensures _) c.if1.true
+returns : tie.Need-returns-then-refusal-ne0
+returns c = stopped _ _ _ (call (called c.before)) _ (c.unread-refusal.ensures _) c.if-refusal-ne0.true
 
 -- the bytes of the card that is read
-read : (c : tie.Else1) → Readable (lent c.before)
-read c = readable _ _ c.before.unread.ensures c.if1.false
+read : (c : tie.Else-refusal-ne0) → Readable (lent c.before)
+read c = readable _ _ c.unread-refusal.ensures c.if-refusal-ne0.false
 
-card-of-requires : tie.Need-card-of-requires
+card-of-requires : tie.Need-card_of-held-requires
 card-of-requires c κs = card-room (read c)
 
 -- the lent bytes are bytes
-bytes : (c : tie.After-unread) → Bytes (lent c)
+bytes : (c : tie.After-unread-refusal) → Bytes (lent c)
 bytes c i =
-    let at-known = c.before.before.before in
-    (at-known.shared-slice-known.given i).fits
+    (c.shared_slice_known-1.given i).fits
 
-returns-2 : tie.Need-returns-2
+returns-2 : tie.Need-returns
 returns-2 c =
-    let at-bar-read = c.before in
-    let at-narrow82 = at-bar-read.before in
-    let at-narrow32 = at-narrow82.before in
-    let at-narrow8 = at-narrow32.before in
-    let at-card-of = at-narrow8.before in
-    let at-if1 = at-card-of.before in
-    let at-unread = at-if1.before in
-    let small = sizes-small _ (bytes at-unread) (read at-if1).size _ at-card-of.card-of.ensures in
-    let outcome = at-bar-read.bar-read.ensures ∙ wide-bar-read _ small _ _ _ _ _ _ at-narrow8.narrow8.ensures at-narrow32.narrow32.ensures at-narrow82.narrow82.ensures in
-    let accepted = sym (at-unread.unread.ensures _) ∙ at-if1.if1.false in
-    reads-back _ _ _ (called at-unread) accepted _ at-card-of.card-of.ensures _ _ _ _
-    outcome _ c.Numbers-of.ensures (bytes at-unread) (read at-if1)
+    let small = sizes-small _ (bytes c.before.before.before.before.before.before.before) (read c.before.before.before.before.before.before).size _ c.card_of-held.ensures in
+    let outcome = c.bar_read-outcome.ensures ∙ wide-bar-read _ small _ _ _ _ _ _ c.narrow8.ensures c.narrow32.ensures c.narrow8-2.ensures in
+    let accepted = sym (c.unread-refusal.ensures _) ∙ c.if-refusal-ne0.false in
+    reads-back _ _ _ (called c.before.before.before.before.before.before.before) accepted _ c.card_of-held.ensures _ _ _ _
+    outcome _ c.numbers_of-numbers.ensures (bytes c.before.before.before.before.before.before.before) (read c.before.before.before.before.before.before)
     (reads-bar _ _ _ _)
 
-pub musgarento-bar-read-spec : {M : Type 1} → statement M
-musgarento-bar-read-spec =
+pub musgarento_bar_read_spec : {M : Type 1} → statement M
+musgarento_bar_read_spec =
     tie.close
     (tie.spec
     (λ c κs. search rules)

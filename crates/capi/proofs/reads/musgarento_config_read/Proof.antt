@@ -17,67 +17,54 @@ use Rattle.capi.proofs.reads.musgarento_config_read.Statement.{statement}
 use Rattle.capi.proofs.reads.musgarento_config_read.Tie as tie
 
 -- what is called, as the test of the bytes finds it
-abbrev called : tie.After-unread → Call
+abbrev called : tie.After-unread-refusal → Call
 called c =
-    let start = c.before.before.before.before in
-    config_read start.args.offset start.args.width
+    config_read c.args.offset c.args.width
 
 -- the bytes of the card that it is lent
-abbrev lent : tie.After-unread → List ℕ
+abbrev lent : tie.After-unread-refusal → List ℕ
 lent c =
-    let start = c.before.before.before.before in
-    start.args.card.now
+    c.args.card.now
 
-returns : tie.Need-returns
-returns c = stopped _ _ _ (call (called c.before)) _ (c.before.unread.ensures _) c.if1.true
+returns : tie.Need-returns-then-refusal-ne0
+returns c = stopped _ _ _ (call (called c.before)) _ (c.unread-refusal.ensures _) c.if-refusal-ne0.true
 
 -- the bytes of the card that is read
-read : (c : tie.Else1) → Readable (lent c.before)
-read c = readable _ _ c.before.unread.ensures c.if1.false
+read : (c : tie.Else-refusal-ne0) → Readable (lent c.before)
+read c = readable _ _ c.unread-refusal.ensures c.if-refusal-ne0.false
 
-card-of-requires : tie.Need-card-of-requires
+card-of-requires : tie.Need-card_of-held-requires
 card-of-requires c κs = card-room (read c)
 
 -- the lent bytes are bytes
-bytes : (c : tie.After-unread) → Bytes (lent c)
+bytes : (c : tie.After-unread-refusal) → Bytes (lent c)
 bytes c i =
-    let at-known = c.before.before.before in
-    (at-known.shared-slice-known.given i).fits
+    (c.shared_slice_known-1.given i).fits
 
 -- the configuration of the card that was read: 256 bytes
-config-bytes : (c : tie.After-card-of) → Bytes c.card-of.result.function.config
-config-bytes c i = let b : Fits w8 (byte c.card-of.result.function.config i) = search rules in b.fits
+config-bytes : (c : tie.After-card_of-held) → Bytes c.card_of-held.result.function.config
+config-bytes c i = let b : Fits w8 (byte c.card_of-held.result.function.config i) = search rules in b.fits
 
-config-length : (c : tie.After-card-of) → length c.card-of.result.function.config ≡ 256
+config-length : (c : tie.After-card_of-held) → length c.card_of-held.result.function.config ≡ 256
 config-length c = search rules
 
-cast-value : tie.Need-overflow-cast-value
+cast-value : tie.Need-overflow_cast-value
 cast-value c =
-    let at-config-read = c.before.before in
-    let at-card-of = at-config-read.before.before.before in
-    let start = at-card-of.before.before.before.before.before.before in
     record {
-      fits = number_small at-card-of.card-of.result start.args.table.now start.args.pending.now _ _ _ _
-          (config-bytes at-card-of) (config-length at-card-of) at-config-read.config-read.ensures c.before.Numbers-of.ensures;
+      fits = number_small c.card_of-held.result c.args.table.now c.args.pending.now _ _ _ _
+          (config-bytes c.before.before.before.before.before) (config-length c.before.before.before.before.before) c.config_read-outcome.ensures c.numbers_of-numbers.ensures;
     }
 
-returns-2 : tie.Need-returns-2
+returns-2 : tie.Need-returns
 returns-2 c =
-    let at-numbers-of = c.before in
-    let at-config-read = at-numbers-of.before in
-    let at-narrow8 = at-config-read.before in
-    let at-narrow16 = at-narrow8.before in
-    let at-card-of = at-narrow16.before in
-    let at-if1 = at-card-of.before in
-    let at-unread = at-if1.before in
-    let outcome = at-config-read.config-read.ensures ∙ wide-config-read _ _ _ _ _ at-narrow16.narrow16.ensures at-narrow8.narrow8.ensures in
-    let accepted = sym (at-unread.unread.ensures _) ∙ at-if1.if1.false in
-    reads-back _ _ _ (called at-unread) accepted _ at-card-of.card-of.ensures _ _ _ _
-    outcome _ at-numbers-of.Numbers-of.ensures (bytes at-unread) (read at-if1)
+    let outcome = c.config_read-outcome.ensures ∙ wide-config-read _ _ _ _ _ c.narrow16.ensures c.narrow8.ensures in
+    let accepted = sym (c.unread-refusal.ensures _) ∙ c.if-refusal-ne0.false in
+    reads-back _ _ _ (called c.before.before.before.before.before.before.before) accepted _ c.card_of-held.ensures _ _ _ _
+    outcome _ c.numbers_of-numbers.ensures (bytes c.before.before.before.before.before.before.before) (read c.before.before.before.before.before.before)
     (reads-config _ _ _)
 
-pub musgarento-config-read-spec : {M : Type 1} → statement M
-musgarento-config-read-spec =
+pub musgarento_config_read_spec : {M : Type 1} → statement M
+musgarento_config_read_spec =
     tie.close
     (tie.spec
     (λ c κs. search rules)

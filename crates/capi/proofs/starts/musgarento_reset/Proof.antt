@@ -11,46 +11,38 @@ use Rattle.capi.proofs.starts.musgarento_reset.Statement.{statement}
 use Rattle.capi.proofs.starts.musgarento_reset.Tie as tie
 
 -- what is called, as the test of the bytes finds it
-abbrev called : tie.After-unread → Call
+abbrev called : tie.After-unread-refusal → Call
 called c =
-    let start = c.before.before.before.before.before.before in
-    reset start.args.out.now
+    reset c.args.out.now
 
 -- the bytes of the card that it is lent
-abbrev lent : tie.After-unread → List ℕ
+abbrev lent : tie.After-unread-refusal → List ℕ
 lent c =
-    let start = c.before.before.before.before.before.before in
-    start.args.card.now
+    c.args.card.now
 
-returns : tie.Need-returns
-returns c = stopped _ _ _ (call (called c.before)) _ (c.before.unread.ensures _) c.if1.true
+returns : tie.Need-returns-then-refusal-ne0
+returns c = stopped _ _ _ (call (called c.before)) _ (c.unread-refusal.ensures _) c.if-refusal-ne0.true
 
 -- the bytes of the card that is read
-read : (c : tie.Else1) → Readable (lent c.before)
-read c = readable _ _ c.before.unread.ensures c.if1.false
+read : (c : tie.Else-refusal-ne0) → Readable (lent c.before)
+read c = readable _ _ c.unread-refusal.ensures c.if-refusal-ne0.false
 
-card-of-requires : tie.Need-card-of-requires
-card-of-requires c κs = card-room (read c.before)
+card-of-requires : tie.Need-card_of-held-requires
+card-of-requires c κs = card-room (read c)
 
-hand-back-requires : tie.Need-hand-back-requires
+hand-back-requires : tie.Need-hand_back-numbers-requires
 hand-back-requires c κs =
-    let at-if1 = c.before.before.before.before.before.before.before.before.before.before.before.before.before in
-    (read at-if1).size
+    (read c.before.before.before.before.before.before.before.before.before.before.before.before).size
 
-returns-2 : tie.Need-returns-2
+returns-2 : tie.Need-returns
 returns-2 c =
-    let at-hand-back = c.before.before in
-    let at-reset = at-hand-back.before.before.before.before.before.before.before.before in
-    let at-card-of = at-reset.before.before.before.before in
-    let at-if1 = at-card-of.before.before in
-    let at-unread = at-if1.before in
-    let accepted = sym (at-unread.unread.ensures _) ∙ at-if1.if1.false in
-    sends-back _ _ _ (called at-unread) accepted _ at-card-of.card-of.ensures _ _ _ _
-    at-reset.reset.ensures _ at-hand-back.hand-back.ensures.0 _ at-hand-back.hand-back.ensures.1
+    let accepted = sym (c.unread-refusal.ensures _) ∙ c.if-refusal-ne0.false in
+    sends-back _ _ _ (called c.before.before.before.before.before.before.before.before.before.before.before.before.before.before.before.before) accepted _ c.card_of-held.ensures _ _ _ _
+    c.reset-outcome.ensures _ c.hand_back-numbers.ensures.0 _ c.hand_back-numbers.ensures.1
     (plain-call _ _ refl refl)
 
-pub musgarento-reset-spec : {M : Type 1} → statement M
-musgarento-reset-spec =
+pub musgarento_reset_spec : {M : Type 1} → statement M
+musgarento_reset_spec =
     tie.close
     (tie.spec
     (λ c κs. search rules) (λ c. search rules)
