@@ -22,8 +22,7 @@ fn tell(made: Ended, ended: &mut u8, refusal: &mut u8, answer: &mut u8)
     *answer = numbers.event;
 }
 
-#[unsafe(no_mangle)]
-pub extern "C" fn musgarento_play(
+pub fn musgarento_play(
     card: &mut [u8],
     table: &mut [u8],
     pending: &mut [u8],

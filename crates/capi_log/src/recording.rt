@@ -22,8 +22,7 @@ fn told(logged: Logged, count: &mut usize) -> u8
 }
 
 // Mark and version.
-#[unsafe(no_mangle)]
-pub extern "C" fn musgarento_log_begin(out: &mut [u8], count: &mut usize) -> u8
+pub fn musgarento_log_begin(out: &mut [u8], count: &mut usize) -> u8
     ensures { wrote result out.new count.new ≡ wrote_by (appended header out.old) }
 {
     let logged = call_log::recorder::begin(out);
@@ -61,8 +60,7 @@ fn append_config_write(
     append(call, refusal, out, count)
 }
 
-#[unsafe(no_mangle)]
-pub extern "C" fn musgarento_log_record(
+pub fn musgarento_log_record(
     kind: u64,
     bar: u64,
     offset: u64,

@@ -71,8 +71,7 @@ fn image_lengths(image: &[u8]) -> Lengths
     lengths_of(&config)
 }
 
-#[unsafe(no_mangle)]
-pub extern "C" fn musgarento_config_lengths(
+pub fn musgarento_config_lengths(
     config: &[u8],
     vectors: &mut usize,
     table_len: &mut usize,
@@ -87,8 +86,7 @@ pub extern "C" fn musgarento_config_lengths(
     told.refusal
 }
 
-#[unsafe(no_mangle)]
-pub extern "C" fn musgarento_image_lengths(
+pub fn musgarento_image_lengths(
     image: &[u8],
     vectors: &mut usize,
     table_len: &mut usize,

@@ -90,8 +90,7 @@ fn first_fields(packets: &[u8]) -> Fields
     fields_of(count, packet)
 }
 
-#[unsafe(no_mangle)]
-pub extern "C" fn musgarento_packet(
+pub fn musgarento_packet(
     packets: &[u8],
     count: &mut usize,
     kind: &mut u8,

@@ -5,8 +5,7 @@ ghost use Rattle.capi_switch.specs.Crossing.{handed, crossed, started};
 
 use crate::bytes::{hand_back, is_switch, put_switch, switch_of};
 
-#[unsafe(no_mangle)]
-pub extern "C" fn musgarento_switch_start(state: &mut [u8], requester: u64) -> u8
+pub fn musgarento_switch_start(state: &mut [u8], requester: u64) -> u8
     ensures { handed result state.new [] 0 ≡ started state.old requester }
 {
     if state.len() != 10 {
@@ -20,8 +19,7 @@ pub extern "C" fn musgarento_switch_start(state: &mut [u8], requester: u64) -> u
     0
 }
 
-#[unsafe(no_mangle)]
-pub extern "C" fn musgarento_switch_packet(
+pub fn musgarento_switch_packet(
     state: &mut [u8],
     port: u64,
     packet: &[u8],
@@ -42,13 +40,7 @@ pub extern "C" fn musgarento_switch_packet(
     hand_back(state, outcome.switch, answer)
 }
 
-#[unsafe(no_mangle)]
-pub extern "C" fn musgarento_switch_down(
-    state: &mut [u8],
-    port: u64,
-    out: &mut [u8],
-    count: &mut usize,
-) -> u8
+pub fn musgarento_switch_down(state: &mut [u8], port: u64, out: &mut [u8], count: &mut usize) -> u8
     ensures { handed result state.new out.new count.new
         ≡ crossed state.old (down port out.old) }
 {
