@@ -6,6 +6,7 @@ ghost use Rattle.capi.specs.Crossing.{card_over};
 ghost use Rattle.player.specs.Plays.{gave, performed};
 
 use bar_access::bar_write::bar_write;
+use call_log::Record;
 use capi::bytes::hand_back;
 use card::outcome::Outcome;
 use config_access::config_write::config_write;
@@ -13,7 +14,6 @@ use image::get::card_of;
 use interrupt::event::event;
 use interrupt::line::line;
 use lifecycle::reset::reset;
-use call_log::Record;
 use model::Answer;
 
 // Hands back an outcome: its card over the bytes of the card before it, which stay beside a refusal, how many bytes of the output are new, and its answer.
