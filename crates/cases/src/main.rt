@@ -1,5 +1,7 @@
 // The bench cases of document 01, and those of requests [6] and [3] of document 02, run on the code. Each call prints a line, and the packets that it sent.
 // This file prints: what a call gives, and whether that is right, is in the modules.
+#![tactic(auto)]
+
 ghost use Rattle.std.specs.Prelude.{◌≡◌, ◌≤◌, length};
 ghost use Rattle.cases.specs.Steps.{case_count};
 

@@ -22,11 +22,9 @@ given s k =
     operate (world_of args.card args.table.now args.pending.now) (operation_by k args.bytes.now args.row args.out.now)
 
 -- the start of the call, seen from its match
-abbrev start : tie.After-struct-known → tie.Start
+abbrev start : tie.After-struct_known-1 → tie.Start
 start c =
-    let at_out = c.before in
-    let at-pending = at_out.before in
-    at-pending.before.before.before
+    c.before.before.before.before.before
 
 by_letter : (s : tie.Start) (k : ℕ) {r : Calls.Outcome} → s.args.row.kind ≡ k → r ≡ given s k → r ≡ given s s.args.row.kind
 by_letter s k e q = q ∙ sym (ap (given s) e)
@@ -38,75 +36,58 @@ silent s k o t p e z q =
     let none = ap (λ (x : ℕ). room_by x s.args.row) e ∙ z in
     by_letter s k e (no_output o t p _ _ (omega (arith, s.requires, none)) q)
 
-returns : tie.Need-returns
+returns : tie.Need-returns-in-115
 unfolding operation_by room_by
 returns c =
-    let at_call = c.before.before.before.before in
-    let at-arm = at_call.before.before.before in
-    let s = start at-arm.before in
-    let args = s.args in
-    silent s 115 _ _ _ at-arm.match.keys1 refl
-    (at_call.start.ensures ∙ start_anywhere args.card args.table.now args.pending.now _ _ _ _)
+    let args = c.args in
+    silent c.before.before.before.before.before.before.before.before.before.before.before.before.before 115 _ _ _ c.in-115.is refl
+    (c.start.ensures ∙ start_anywhere args.card args.table.now args.pending.now _ _ _ _)
 
-returns-2 : tie.Need-returns-2
+returns-2 : tie.Need-returns-in-114
 unfolding operation_by room_by
 returns-2 c =
-    let at-arm = c.before.before.before in
-    silent (start at-arm.before) 114 _ _ _ at-arm.match.keys2 refl c.config-read.ensures
+    silent (start c.before.before) 114 _ _ _ c.in-114.is refl c.config_read.ensures
 
-returns-3 : tie.Need-returns-3
+returns-3 : tie.Need-returns-in-82
 unfolding operation_by room_by
 returns-3 c =
-    let at-arm = c.before.before.before.before in
-    silent (start at-arm.before) 82 _ _ _ at-arm.match.keys3 refl c.bar-read.ensures
+    silent (start c.before.before.before) 82 _ _ _ c.in-82.is refl c.bar_read.ensures
 
-returns-4 : tie.Need-returns-4
+returns-4 : tie.Need-returns-in-119
 unfolding operation_by
 returns-4 c =
-    let at_call = c.before.before.before.before in
-    let at-arm = at_call.before.before.before.before in
-    by_letter (start at-arm.before) 119 at-arm.match.keys4 at_call.config-write.ensures
+    by_letter (start c.before.before.before.before.before.before.before.before) 119 c.in-119.is c.config_write.ensures
 
-returns-5 : tie.Need-returns-5
+returns-5 : tie.Need-returns-in-87
 unfolding operation_by
 returns-5 c =
-    let at_call = c.before.before.before.before.before.before in
-    let at-arm = at_call.before.before.before.before.before.before in
-    by_letter (start at-arm.before) 87 at-arm.match.keys5 at_call.bar-write.ensures
+    by_letter (start c.before.before.before.before.before.before.before.before.before.before.before.before.before) 87 c.in-87.is c.bar_write.ensures
 
-returns-6 : tie.Need-returns-6
+returns-6 : tie.Need-returns-in-108
 unfolding operation_by
 returns-6 c =
-    let at_call = c.before.before in
-    let at-arm = at_call.before.before.before.before.before in
-    by_letter (start at-arm.before) 108 at-arm.match.keys6 at_call.line.ensures
+    by_letter (start c.before.before.before.before.before.before) 108 c.in-108.is c.line.ensures
 
-returns-7 : tie.Need-returns-7
+returns-7 : tie.Need-returns-in-101
 unfolding operation_by
 returns-7 c =
-    let at_call = c.before.before.before.before in
-    let at-arm = at_call.before.before.before.before in
-    by_letter (start at-arm.before) 101 at-arm.match.keys7 at_call.event.ensures
+    by_letter (start c.before.before.before.before.before.before.before.before) 101 c.in-101.is c.event.ensures
 
-returns-8 : tie.Need-returns-8
+returns-8 : tie.Need-returns-in-100
 unfolding operation_by room_by
 returns-8 c =
-    let at_call = c.before.before in
-    let at-arm = at_call.before.before.before in
-    silent (start at-arm.before) 100 _ _ _ at-arm.match.keys8 refl at_call.withdraw.ensures
+    silent (start c.before.before.before.before.before) 100 _ _ _ c.in-100.is refl c.withdraw.ensures
 
-returns-9 : tie.Need-returns-9
+returns-9 : tie.Need-returns-in_default
 unfolding operation_by
 returns-9 c =
-    let at_call = c.before.before in
-    let at-arm = at_call.before.before.before.before in
-    let n = at-arm.match.rest in
+    let n = c.in_default.in_default-own.rest in
     let m = n.0.0.0 in
     rw (ne_eqb _ 115 m.0.0.0.0.1, ne_eqb _ 114 m.0.0.0.1, ne_eqb _ 82 m.0.0.1, ne_eqb _ 119 m.0.1, ne_eqb _ 87 m.1)
-    (rw (ne_eqb _ 108 n.0.0.1, ne_eqb _ 101 n.0.1, ne_eqb _ 100 n.1) at_call.save.ensures)
+    (rw (ne_eqb _ 108 n.0.0.1, ne_eqb _ 101 n.0.1, ne_eqb _ 100 n.1) c.save.ensures)
 
-pub perform-spec : {M : Type 1} → statement M
-perform-spec =
+pub perform_spec : {M : Type 1} → statement M
+perform_spec =
     tie.close
     (tie.spec
     (λ c. search rules) (λ c κs. search rules) (λ c κs. search rules) (λ c. search rules) (λ c κs. search rules)

@@ -4,12 +4,8 @@ use Rattle.words.specs.Lists.{count}
 use Rattle.words.specs.Bytes.{bytes_of}
 use Rattle.cases.specs.Rows.{digit_of}
 use Rattle.cases.specs.Steps.{config_at, operation_by, room_by, step_of, row_steps, case_steps}
-use Rattle.cases.proofs.table.bench.Statement.{statement}
-use Rattle.cases.proofs.table.bench.Tie as tie
+use Rattle.cases.proofs.table.bench.Goals as goal
 
-returns : tie.Need-returns
+pub returns : goal.returns
 unfolding count bytes_of digit_of config_at operation_by room_by step_of row_steps case_steps
 returns c = refl
-
-pub bench-spec : {M : Type 1} → statement M
-bench-spec = tie.close (tie.spec returns)
