@@ -6,9 +6,9 @@ ghost use Rattle.call_log.specs.Logs.{header};
 ghost use Rattle.call_log.specs.Recorder.{appended};
 ghost use Rattle.capi_log.specs.Recording.{wrote, wrote_by, config_write_of, record_of, wrote_record};
 
-use capi::narrow::{narrow8, narrow16, narrow32};
 use call_log::Record;
 use call_log::recorder::Logged;
+use capi::narrow::{narrow8, narrow16, narrow32};
 use model::Answer;
 
 // What was appended as numbers.

@@ -21,82 +21,74 @@ size : (a b : ℕ) (l : List ℕ) (n : ℕ) → length l ≡ 15 → length ((a �
 size a b l n h = rw (length-append l (bytes_of 8 n), h, length-bytes_of 8 n)
 
 -- stage and bytes taken are written
-module _ (c : tie.After-slice-known2) where
-  abbrev at_first : tie.After-put-slice
+module _ (c : tie.After-slice_known-2-1) where
+  abbrev at_first : tie.After-put_slice-a
   at_first = c.before.before
 
   abbrev start : tie.Start
   start =
-      let at_byte = at_first.before.before.before.before in
-      at_byte.before.before.before
+      c.before.before.before.before.before.before.before.before.before
 
-  two : at_first.put-slice.result ≡ 2
-  two = at_first.put-slice.ensures.count
+  two : c.put_slice-a.result ≡ 2
+  two = c.put_slice-a.ensures.count
 
-  kept : length at_first.put-slice.last.0 ≡ 25
-  kept = at_first.put-slice.kept.0 ∙ start.pre
+  kept : length c.put_slice-a.new.out ≡ 25
+  kept = c.put_slice-a.auto.out ∙ c.requires
 
 -- the record's bytes are written
-module _ (c : tie.After-slice-known3) where
-  abbrev at_part : tie.After-put-slice2
+module _ (c : tie.After-slice_known-3-1) where
+  abbrev at_part : tie.After-put_slice
   at_part = c.before.before
 
-  abbrev begun : tie.After-slice-known2
-  begun = at_part.before.before.before
+  abbrev begun : tie.After-slice_known-2-1
+  begun = c.before.before.before.before.before
 
   abbrev at₂ : ℕ
-  at₂ = (at_first begun).put-slice.result + at_part.put-slice2.result
+  at₂ = c.put_slice-a.result + c.put_slice.result
 
   abbrev out₂ : List ℕ
-  out₂ = let k = (at_first begun).put-slice in put_mid k.result (length k.last.0 - k.result) k.last.0 at_part.put-slice2.last.0
+  out₂ = let k = c.put_slice-a in put_mid k.result (length k.new.out - k.result) k.new.out c.put_slice.new.out
 
-  fifteen : at_part.put-slice2.result ≡ 15
-  fifteen = at_part.put-slice2.ensures.count ∙ part_known (start begun)
+  fifteen : c.put_slice.result ≡ 15
+  fifteen = c.put_slice.ensures.count ∙ part_known (start c.before.before.before.before.before)
 
   kept₂ : length out₂ ≡ 25
-  kept₂ = c.before.out2.given.1 ∙ kept begun
+  kept₂ = c.out-2-1.given.1 ∙ kept c.before.before.before.before.before
 
-put-slice-requires-2 : tie.Need-put-slice-requires-2
+put-slice-requires-2 : tie.Need-put_slice-requires
 put-slice-requires-2 c κs =
-    let d = c.before.before in
-    simp (length-take, length-drop) (omega (arith, two d, kept d, part_known (start d)))
+    simp (length-take, length-drop) (omega (arith, two c.before.before, kept c.before.before, part_known (start c.before.before)))
 
-add-b : tie.Need-overflow-add-b
+add-b : tie.Need-overflow_add-b
 add-b c = omega (arith, two (begun c), fifteen c)
 
-sub-put-le : tie.Need-overflow-sub-put-le
+sub-put-le : tie.Need-slice_bounds-put_le-count
 sub-put-le c = omega (arith, two (begun c), fifteen c, kept₂ c)
 
-part-put-le-start : tie.Need-slice-bounds-put-le-start
+part-put-le-start : tie.Need-slice_bounds-put_le-start
 part-put-le-start c = omega (arith, two (begun c), fifteen c, kept₂ c)
 
-put-le-requires : tie.Need-put-le-requires
+put-le-requires : tie.Need-put_le-requires
 put-le-requires c κs =
-    let d = c.before in
-    (omega arith, simp (length-take, length-drop) (omega (arith, two (begun d), fifteen d, kept₂ d)))
+    (omega arith, simp (length-take, length-drop) (omega (arith, two (begun c.before), fifteen c.before, kept₂ c.before)))
 
 returns : tie.Need-returns
 unfolding player_bytes
 returns c =
-    let at-put-le = c.before.before in
-    let d = at-put-le.before.before in
-    let s = start (begun d) in
-    let p = s.args.player in
-    let at_first = at_first (begun d) in
-    let at_byte = at_first.before.before.before.before in
-    let first = at_byte.stage-byte.result ∷ p.taken % 256 ∷ [] in
-    let o = s.args.out.now in
-    let k₁ = at_first.put-slice in
-    let k₂ = (at_part d).put-slice2 in
-    let k₃ = at-put-le.put-le in
-    let both = behind first p.part o k₁.last.0 k₂.last.0 k₁.result k₂.result k₁.ensures k₂.ensures in
-    let all = behind (first ++ p.part) (bytes_of 8 p.number) o (out₂ d) k₃.new.0 (at₂ d) k₃.result both k₃.ensures in
+    let p = c.args.player in
+    let first = c.stage_byte.result ∷ p.taken % 256 ∷ [] in
+    let o = c.args.out.now in
+    let k₁ = c.put_slice-a in
+    let k₂ = c.put_slice in
+    let k₃ = c.put_le in
+    let both = behind first p.part o k₁.new.out k₂.new.out k₁.result k₂.result k₁.ensures k₂.ensures in
+    let all = behind (first ++ p.part) (bytes_of 8 p.number) o (out₂ c.before.before.before.before) k₃.new.out (at₂ c.before.before.before.before) k₃.result both k₃.ensures in
     all.bytes
-    ∙ over-all (first ++ p.part ++ bytes_of 8 p.number) o (omega (arith, size at_byte.stage-byte.result p.taken p.part p.number (part_known s), s.pre))
-    ∙ ap (λ (k : ℕ). k ∷ p.taken % 256 ∷ p.part ++ bytes_of 8 p.number) at_byte.stage-byte.ensures
+    ∙ over-all (first ++ p.part ++ bytes_of 8 p.number) o (omega (arith, size c.stage_byte.result p.taken p.part p.number (part_known c.before.before.before.before.before.before.before.before.before.before.before.before.before.before.before.before.before.before), c.requires))
+    ∙ ap (λ (k : ℕ). k ∷ p.taken % 256 ∷ p.part ++ bytes_of 8 p.number) c.stage_byte.ensures
 
-pub put-player-spec : {M : Type 1} → statement M
-put-player-spec =
+pub put_player_spec : {M : Type 1} → statement M
+put_player_spec =
     tie.close
     (tie.spec
     (λ c κs. search rules) (λ c. search rules) (λ c. search rules) (λ c κs. search rules) (λ c. search rules) (λ c. search rules)

@@ -2,65 +2,50 @@
 use mathlib.Core.Path.{◌≡◌, sym, ◌∙◌}
 use mathlib.Core.Bool.{true}
 use borrow.Author.Rules.{rules}
-use borrow.Author.Tests.{not-true, not-false}
 use Rattle.capi_log.specs.Crossing.{is_card, is_player}
 use Rattle.capi_log.proofs.CrossingFor.{card-length, player-length, no_card, no_player, told}
 use Rattle.capi_log.proofs.playing.musgarento_play.Statement.{statement}
 use Rattle.capi_log.proofs.playing.musgarento_play.Tie as tie
 
 -- where the function begins, seen from the test of the card's bytes
-abbrev start : tie.After-is-card → tie.Start
+abbrev start : tie.After-is_card → tie.Start
 start c =
-    let at_out = c.before.before in
-    let at-pending = at_out.before.before.before in
-    at-pending.before.before.before
+    c.before.before.before.before.before.before.before
 
 -- the bytes are a card's
-is-card : (c : tie.Else1) → is_card (start c.before).args.card.now ≡ true
-is-card c = sym c.before.is-card.ensures ∙ not-false _ c.if1.false
+is-card : (c : tie.Else-not-is_card) → is_card c.args.card.now ≡ true
+is-card c = sym c.is_card.ensures ∙ c.if-not-is_card.false
 
 -- the test of the card's bytes, seen from behind that of the player's
-abbrev first : tie.Else2 → tie.Else1
-first c = let at-is-player = c.before in at-is-player.before.before
+abbrev first : tie.Else-not-is_player → tie.Else-not-is_card
+first c = c.before.before
 
 -- and a player's
-is-player : (c : tie.Else2) → is_player (start (first c).before).args.player.now ≡ true
-is-player c = sym c.before.is-player.ensures ∙ not-false _ c.if2.false
+is-player : (c : tie.Else-not-is_player) → is_player (start c.before.before.before).args.player.now ≡ true
+is-player c = sym c.is_player.ensures ∙ c.if-not-is_player.false
 
-returns : tie.Need-returns
-returns c = no_card _ _ _ _ _ _ (sym c.before.is-card.ensures ∙ not-true _ c.if1.true)
+returns : tie.Need-returns-then-not-is_card
+returns c = no_card _ _ _ _ _ _ (sym c.is_card.ensures ∙ c.if-not-is_card.true)
 
-returns-2 : tie.Need-returns-2
+returns-2 : tie.Need-returns-then-not-is_player
 returns-2 c =
-    let at-is-player = c.before in
-    no_player _ _ _ _ _ _ (is-card at-is-player.before.before) (sym at-is-player.is-player.ensures ∙ not-true _ c.if2.true)
+    no_player _ _ _ _ _ _ (is-card c.before.before) (sym c.is_player.ensures ∙ c.if-not-is_player.true)
 
 -- the two tests, seen from the call
-abbrev second : tie.After-take-turn → tie.Else2
+abbrev second : tie.After-take_turn-played → tie.Else-not-is_player
 second c =
-    let at-lent = c.before.before.before.before in
-    at-lent.before.before.before
+    c.before.before.before.before.before.before.before
 
-take-turn-requires : tie.Need-take-turn-requires
+take-turn-requires : tie.Need-take_turn-played-requires
 take-turn-requires c κs =
-    let at-lent = c.before.before.before in
-    let at-if2 = at-lent.before.before.before in
-    (card-length _ (is-card (first at-if2)), player-length _ (is-player at-if2))
+    (card-length _ (is-card (first c.before.before.before.before.before.before)), player-length _ (is-player c.before.before.before.before.before.before))
 
-returns-3 : tie.Need-returns-3
+returns-3 : tie.Need-returns
 returns-3 c =
-    let at-tell = c.before.before.before in
-    let at_out = at-tell.before.before in
-    let at-player = at_out.before.before in
-    let at-pending = at-player.before.before in
-    let at_table = at-pending.before.before in
-    let at-card = at_table.before.before in
-    let at_turn = at-card.before in
-    let at-if2 = second at_turn in
-    told _ _ _ _ _ _ (is-card (first at-if2)) (is-player at-if2) _ at_turn.take-turn.ensures _ _ _ c.tell.ensures
+    told _ _ _ _ _ _ (is-card (first c.before.before.before.before.before.before.before.before.before.before.before.before.before.before.before.before.before.before.before.before.before)) (is-player c.before.before.before.before.before.before.before.before.before.before.before.before.before.before.before.before.before.before.before.before.before) _ c.take_turn-played.ensures _ _ _ c.tell.ensures
 
-pub musgarento-play-spec : {M : Type 1} → statement M
-musgarento-play-spec =
+pub musgarento_play_spec : {M : Type 1} → statement M
+musgarento_play_spec =
     tie.close
     (tie.spec
     (λ c κs. search rules) (λ c. search rules)

@@ -8,95 +8,63 @@ use Rattle.capi_log.proofs.turn.take_turn.Statement.{statement}
 use Rattle.capi_log.proofs.turn.take_turn.Tie as tie
 
 -- where the function begins, seen from the test of the bytes
-abbrev start : tie.After-at-once → tie.Start
+abbrev start : tie.After-at_once-size → tie.Start
 start c =
-    let at_out = c.before.before in
-    let at-pending = at_out.before.before.before in
-    at-pending.before.before.before
+    c.before.before.before.before.before.before.before
 
 -- ---- a record that stands whole
 
-stands : (c : tie.Then1) → at_once (start c.before).args.player.now (start c.before).args.log.now ≡ 0 → ⊥
-stands c e = c.if1.true (c.before.at_once.ensures ∙ e)
+stands : (c : tie.Then-size-ne0) → at_once c.args.player.now c.args.log.now ≡ 0 → ⊥
+stands c e = c.if-size-ne0.true (c.at_once-size.ensures ∙ e)
 
-record-in-requires : tie.Need-record-in-requires
+record-in-requires : tie.Need-record_in-requires
 record-in-requires c κs =
-    let at-if = c.before.before.before in
-    at-once-room _ _ (stands at-if)
+    at-once-room _ _ (stands c.before.before.before)
 
-returns : tie.Need-returns
+returns : tie.Need-returns-then-size-ne0
 returns c =
-    let at-put-after = c.before.before.before in
-    let at_out = at-put-after.before.before.before in
-    let at-pending = at_out.before.before in
-    let at_table = at-pending.before.before in
-    let at-card = at_table.before.before in
-    let at-perform = at-card.before in
-    let at-record = at-perform.before.before.before in
-    let at-lent = at-record.before in
-    let at-if = at-lent.before.before.before in
-    let at_test = at-if.before in
     rw c.done.ensures
-    (turned_at_once _ _ _ _ _ _ _ at_test.at_once.ensures at-if.if1.true (start at_test).requires.1 _ at-record.record-in.ensures
-    _ at-perform.perform.ensures _ at-put-after.put-after.ensures)
+    (turned_at_once _ _ _ _ _ _ _ c.at_once-size.ensures c.if-size-ne0.true c.requires.1 _ c.record_in.ensures
+    _ c.perform-answer.ensures _ c.put_after.ensures)
 
 -- ---- any other
 
-returns-2 : tie.Need-returns-2
+returns-2 : tie.Need-returns-then-not-next
 returns-2 c =
-    let at-put-player = c.before.before in
-    let at-if = at-put-player.before.before in
-    let at-advance = at-if.before.before.before in
-    turned-idle _ _ _ _ _ _ _ at-advance.before.player-of.ensures at-advance.advance.result at-advance.advance.ensures (not-true _ at-if.if2.true)
-    _ at-put-player.put-player.ensures
+    turned-idle _ _ _ _ _ _ _ c.player_of.ensures c.advance-next.result c.advance-next.ensures (not-true _ c.if-not-next.true)
+    _ c.put_player.ensures
 
 -- the test of the bytes, seen from what the player takes
-abbrev tested : tie.After-advance → tie.After-at-once
+abbrev tested : tie.After-advance-next → tie.After-at_once-size
 tested c =
-    let at-player-of = c.before in
-    at-player-of.before.before.before
+    c.before.before.before
 
 -- what the player takes, seen from its record
-abbrev taken : tie.After-held-record → tie.After-advance
+abbrev taken : tie.After-held_record → tie.After-advance-next
 taken c =
-    let at-lent = c.before in
-    let at-if = at-lent.before.before.before in
-    at-if.before.before.before
+    c.before.before.before.before.before.before.before
 
-perform-requires-2 : tie.Need-perform-requires-2
+perform-requires-2 : tie.Need-perform-answer-requires-2
 perform-requires-2 c κs =
-    let at-record = c.before.before in
-    (start (tested (taken at-record))).requires.0
+    c.requires.0
 
 -- the record's call, seen from where the player goes on
-abbrev performed : tie.After-put-player-arg2 → tie.After-perform2
+abbrev performed : tie.After-put_player-arg-2-1 → tie.After-perform-answer-2
 performed c =
-    let at_out = c.before.before in
-    let at-pending = at_out.before.before in
-    let at_table = at-pending.before.before in
-    let at-card = at_table.before.before in
-    at-card.before
+    c.before.before.before.before.before.before.before.before.before
 
-put-player-requires-2 : tie.Need-put-player-requires-2
+put-player-requires-2 : tie.Need-put_player-requires-2
 put-player-requires-2 c κs =
-    let at-perform = performed c.before in
-    let at-record = at-perform.before.before.before in
-    (start (tested (taken at-record))).requires.1
+    c.requires.1
 
-returns-3 : tie.Need-returns-3
+returns-3 : tie.Need-returns
 returns-3 c =
-    let at-put-player = c.before.before.before in
-    let at_Onward = at-put-player.before in
-    let at-perform = performed at_Onward.before in
-    let at-record = at-perform.before.before.before in
-    let at-if = at-record.before.before.before.before in
-    let at-advance = taken at-record in
-    rw c.done2.ensures
-    (turned_due _ _ _ _ _ _ _ at-advance.before.player-of.ensures at-advance.advance.result at-advance.advance.ensures (not-false _ at-if.if2.left)
-    _ at-record.held-record.ensures _ at-perform.perform2.ensures _ (at-put-player.put-player2.ensures ∙ ap player_bytes at_Onward.onward.ensures) _ refl)
+    rw c.done-2.ensures
+    (turned_due _ _ _ _ _ _ _ c.player_of.ensures c.advance-next.result c.advance-next.ensures (not-false _ c.if-not-next.false)
+    _ c.held_record.ensures _ c.perform-answer-2.ensures _ (c.put_player-2.ensures ∙ ap player_bytes c.onward.ensures) _ refl)
 
-pub take-turn-spec : {M : Type 1} → statement M
-take-turn-spec =
+pub take_turn_spec : {M : Type 1} → statement M
+take_turn_spec =
     tie.close
     (tie.spec
     (λ c κs. search rules)
