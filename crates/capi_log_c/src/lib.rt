@@ -25,7 +25,9 @@ pub extern "C" fn musgarento_play(
         taken.new ended.new refusal.new answer.new count.new
         ≡ played card.old table.old pending.old player.old log.now out.old }
 {
-    capi_log::playing::musgarento_play(card, table, pending, player, log, out, taken, ended, refusal, answer, count)
+    capi_log::playing::musgarento_play(
+        card, table, pending, player, log, out, taken, ended, refusal, answer, count,
+    )
 }
 
 #[unsafe(no_mangle)]

@@ -43,5 +43,7 @@ pub extern "C" fn musgarento_packet(
     ensures { fields result count.new kind.new requester.new address.new value.new pin.new level.new
         ≡ first_fields packets.now }
 {
-    capi_query::packets::musgarento_packet(packets, count, kind, requester, address, value, pin, level)
+    capi_query::packets::musgarento_packet(
+        packets, count, kind, requester, address, value, pin, level,
+    )
 }
