@@ -31,7 +31,7 @@ unfolding
     Cuttings.whole_of Cuttings.pieced Cuttings.pieced_all
     Cards.on_card Cards.told Cards.acted Cards.acted_all Cards.calls_of Cards.calls_by Cards.calls_made
     Recorder.is_kept Recorder.logged Recorder.appended Recorder.ends_log Recorder.recorded_calls
-    Recorder.logged_call Recorder.logged_all Recorder.log_of Recorder.is_recorded Recorder.given Recorder.numbered Recorder.left
+    Recorder.logged_call Recorder.logged_all Recorder.log_of Recorder.log_told Recorder.is_recorded Recorder.given Recorder.numbered Recorder.left
 log_definitions = true
 
 -- mark, version, kinds, lines, sizes, and each record byte for byte
@@ -67,3 +67,8 @@ hosts = tt
 pub recordings : T (agree Recordings.recordings)
 unfolding definitions log_definitions
 recordings = tt
+
+-- where a withdrawal ends the log
+pub withdrawn : T (agree Recordings.withdrawn)
+unfolding definitions log_definitions
+withdrawn = tt

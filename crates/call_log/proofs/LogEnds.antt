@@ -7,8 +7,8 @@ use borrow.Author.Tests.{not-true}
 use Rattle.words.proofs.BoolLaws.{both}
 use Rattle.model.specs.Answers.{is_accepted}
 use Rattle.model.specs.World.{World}
-use Rattle.model.specs.Calls.{Call, withdraw, is_withdrawal, step}
-use Rattle.call_log.specs.Recorder.{ends_log, no_withdrawal, recorded_calls, log_of, left}
+use Rattle.model.specs.Calls.{Call, withdraw, is_withdrawal, no_withdrawal, step}
+use Rattle.call_log.specs.Recorder.{ends_log, recorded_calls, log_told, left}
 
 -- a list without withdrawals is told of whole
 pub recorded_whole : (w : World) (calls : List Call) → no_withdrawal calls ≡ true → recorded_calls w calls ≡ calls
@@ -33,6 +33,6 @@ ends_there w (c ∷ before) v behind a =
     ap (λ (l : List Call). cond (is_withdrawal c && is_accepted (step w c).answer) [] (c ∷ l)) (ends_there (step w c).world before v behind a)
 
 pub withdrawal_ends : (w : World) (before : List Call) (v : ℕ) (behind : List Call) → is_accepted (step (left w before) (withdraw v)).answer ≡ true
-    → log_of w (before ++ (withdraw v ∷ behind)) ≡ log_of w before
-unfolding log_of
+    → log_told w (before ++ (withdraw v ∷ behind)) ≡ log_told w before
+unfolding log_told
 withdrawal_ends w before v behind a = rw (ends_there w before v behind a)

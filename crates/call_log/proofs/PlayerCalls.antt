@@ -10,9 +10,10 @@ use Rattle.model.specs.Answers.{is_accepted}
 use Rattle.model.specs.World.{World}
 use Rattle.model.specs.Vectors.{waits}
 use Rattle.model.specs.Start.{Given}
-use Rattle.model.specs.Calls.{start_given, start, operate}
-use Rattle.model.specs.History.{Past, Run, called, run, WaitsBy}
-use Rattle.model.proofs.WaitingHistory.{waiting_history}
+use Rattle.model.specs.Calls.{no_withdrawal, start_given, start, operate}
+use Rattle.model.specs.History.{Past, Run, called, run, WaitsBy, WaitsStill}
+use Rattle.model.proofs.WaitingHistory.{withdrawal_history}
+use Rattle.model.proofs.DemandHistory.{waiting_history}
 use Rattle.call_log.specs.declared.Record.{Record}
 use Rattle.call_log.specs.declared.Player.{Player}
 use Rattle.call_log.specs.Players.{played_record}
@@ -55,13 +56,29 @@ player-calls h (x ∷ xs) =
 -- bit is one exactly if the past, which has the answers that the player told, says so
 pub player_history : (w₀ : World) (config sizes : List ℕ) (events requester : ℕ)
     → is_accepted (operate w₀ (start config sizes events requester)).answer ≡ true
-    → (p : Player) (actions : List Action) (m : Mode) (v : ℕ)
+    → (p : Player) (actions : List Action)
+    → no_withdrawal (calls_made (host_of p (operate w₀ (start config sizes events requester)).world) actions) ≡ true
+    → (m : Mode) (v : ℕ)
     → let g : Given = start_given w₀.endpoint config sizes events requester in
     let r : Run = (acted_all (host_of p (operate w₀ (start config sizes events requester)).world) actions).run in
     (waits m r.world.endpoint v ≡ true) ↔ WaitsBy g m v r.past
 unfolding run
-player_history w₀ config sizes events requester a p actions m v =
+player_history w₀ config sizes events requester a p actions n m v =
     let g : Given = start_given w₀.endpoint config sizes events requester in
     let h : Host = host_of p (operate w₀ (start config sizes events requester)).world in
     subst (λ (r : Run). (waits m r.world.endpoint v ≡ true) ↔ WaitsBy g m v r.past) (sym (player-calls h actions))
-    (waiting_history w₀ config sizes events requester a (calls_made h actions) m v)
+    (waiting_history w₀ config sizes events requester a (calls_made h actions) n m v)
+
+-- the same where withdrawals are among the host's own calls
+pub player_withdrawals : (w₀ : World) (config sizes : List ℕ) (events requester : ℕ)
+    → is_accepted (operate w₀ (start config sizes events requester)).answer ≡ true
+    → (p : Player) (actions : List Action) (m : Mode) (v : ℕ)
+    → let g : Given = start_given w₀.endpoint config sizes events requester in
+    let r : Run = (acted_all (host_of p (operate w₀ (start config sizes events requester)).world) actions).run in
+    (waits m r.world.endpoint v ≡ true) ↔ WaitsStill g m v r.past
+unfolding run
+player_withdrawals w₀ config sizes events requester a p actions m v =
+    let g : Given = start_given w₀.endpoint config sizes events requester in
+    let h : Host = host_of p (operate w₀ (start config sizes events requester)).world in
+    subst (λ (r : Run). (waits m r.world.endpoint v ≡ true) ↔ WaitsStill g m v r.past) (sym (player-calls h actions))
+    (withdrawal_history w₀ config sizes events requester a (calls_made h actions) m v)

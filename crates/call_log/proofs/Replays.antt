@@ -1,5 +1,5 @@
 -- The recorder of request [1]: a recorded trial, played again, gives the same. Assumes nothing.
-use mathlib.Core.Path.{◌≡◌, refl, sym, ap, ◌∙◌}
+use mathlib.Core.Path.{◌≡◌, refl, sym, ap, subst, ◌∙◌}
 use mathlib.Core.Bool.{true, false}
 use mathlib.Core.List.{List, [], ◌∷◌}
 use mathlib.Core.Option.{none, some}
@@ -14,7 +14,7 @@ use Rattle.words.proofs.BoolLaws.{by_test}
 use Rattle.model.specs.declared.Answer.TheVariants.{Refused}
 use Rattle.model.specs.Answers.{refusal_of}
 use Rattle.model.specs.World.{World}
-use Rattle.model.specs.Calls.{Call, Outcome, config_read, config_write, bar_read, bar_write, event, line, reset, save, withdraw, step, next, sends, answer_of, output_of, earlier_refusal}
+use Rattle.model.specs.Calls.{Call, Outcome, config_read, config_write, bar_read, bar_write, event, line, reset, save, withdraw, no_withdrawal, step, next, sends, answer_of, output_of, earlier_refusal}
 use Rattle.model.proofs.Refusals.{refused_unchanged, room_exact}
 use Rattle.model.proofs.Calls.AnswerLaws.{not-accepted}
 use Rattle.model.proofs.Calls.CallLaws.{step_elim}
@@ -24,9 +24,10 @@ use Rattle.call_log.specs.Logs.{Fits, FitsIn, AllFit, no_more, one_more, call_of
 use Rattle.call_log.specs.Players.{fresh, between, counted}
 use Rattle.call_log.specs.Cuttings.{Trial, preceded, whole_of}
 use Rattle.call_log.specs.Cards.{shown, on_card, spare}
-use Rattle.call_log.specs.Recorder.{is_kept, logged, ends_log, recorded_calls, logged_call, logged_all, log_of, is_recorded, given, numbered, left}
+use Rattle.call_log.specs.Recorder.{is_kept, logged, ends_log, recorded_calls, logged_call, logged_all, log_of, log_told, is_recorded, given, numbered, left}
 use Rattle.call_log.proofs.Room.{card_yes, card_no, roomy, refused_so, lends, spare-length}
 use Rattle.call_log.proofs.Feeding.{feed, after-header}
+use Rattle.call_log.proofs.LogEnds.{recorded_whole}
 
 -- ---- a call that was not refused with 6 gives the same with 40,976 bytes of output
 
@@ -127,11 +128,22 @@ replay_all [] no_more n w = refl
 replay_all (c ∷ cs) (one_more h hs) n w =
     by_test (ends_log c (step w c).answer) (λ e. rw e) (λ e. rw e (replay_one n w (λ v. recorded_calls v cs) (replay_all cs hs) c h e))
 
--- The log of any list of calls, played from the card on which they were made: each record gives the answer and the packets that its call gave, and
--- card and buffers are those that the calls left, up to the first accepted withdrawal, which ends the log. Calls refused with 6, reads and saves are
--- not in the log
-pub replays : (w : World) (calls : List Call) → AllFit calls
+-- The log of any list of calls, withdrawals among them, played from the card on which they were made: each record gives the answer and the packets
+-- that its call gave, and card and buffers are those that the calls left, up to the first accepted withdrawal, which ends the log. Calls refused
+-- with 6, reads and saves are not in the log
+pub replays_told : (w : World) (calls : List Call) → AllFit calls
     → let told : List Call = recorded_calls w calls in
-    whole_of (on_card spare) fresh w (log_of w calls) ≡ record { results = given w told; player = between (numbered 0 w told); world = left w told }
-unfolding log_of
-replays w calls h = after-header (on_card spare) w (logged_all w (recorded_calls w calls)) ∙ replay_all calls h 0 w
+    whole_of (on_card spare) fresh w (log_told w calls) ≡ record { results = given w told; player = between (numbered 0 w told); world = left w told }
+unfolding log_of log_told
+replays_told w calls h = after-header (on_card spare) w (logged_all w (recorded_calls w calls)) ∙ replay_all calls h 0 w
+
+-- The log of any list of calls, played from the card on which they were made: each record gives the answer and the packets that its call gave, and
+-- card and buffers are those that the calls left. Calls refused with 6, reads and saves are not in the log
+pub replays : (w : World) (calls : List Call) → no_withdrawal calls ≡ true → AllFit calls
+    → whole_of (on_card spare) fresh w (log_of w calls) ≡ record { results = given w calls; player = between (numbered 0 w calls); world = left w calls }
+unfolding log_told
+replays w calls n h =
+    subst
+    (λ (l : List Call).
+    whole_of (on_card spare) fresh w (log_of w l) ≡ record { results = given w l; player = between (numbered 0 w l); world = left w l })
+    (recorded_whole w calls n) (replays_told w calls h)

@@ -1,5 +1,5 @@
 -- The recorder of request [1]: the log of calls that were made, with their answers. Assumes nothing.
-use Rattle.std.specs.Prelude.{Bool, true, false, cond, not, ◌&&◌, List, [], ◌∷◌, ◌++◌, ℕ, ltb, eqb, length}
+use Rattle.std.specs.Prelude.{Bool, false, cond, not, ◌&&◌, List, [], ◌∷◌, ◌++◌, ℕ, ltb, eqb, length}
 use Rattle.std.proofs.Math.Option.{Option, none, some}
 use Rattle.words.specs.Writers.{over}
 use Rattle.model.specs.declared.Answer.{Answer}
@@ -46,11 +46,6 @@ appended bytes out =
 unfoldable pub ends_log : Call → Answer → Bool
 ends_log c a = is_withdrawal c && is_accepted a
 
--- no call of a list is a withdrawal
-unfoldable pub no_withdrawal : List Call → Bool
-no_withdrawal [] = true
-no_withdrawal (c ∷ cs) = not (is_withdrawal c) && no_withdrawal cs
-
 -- the calls from a card on that the log tells of: those before the first that ends it
 unfoldable pub recorded_calls : World → List Call → List Call
 recorded_calls w [] = []
@@ -67,7 +62,11 @@ logged_all w [] = []
 logged_all w (c ∷ cs) = logged_call (record_of c) (step w c).answer ++ logged_all (step w c).world cs
 
 unfoldable pub log_of : World → List Call → List ℕ
-log_of w calls = header ++ logged_all w (recorded_calls w calls)
+log_of w calls = header ++ logged_all w calls
+
+-- request [3]: the log of a list of calls, withdrawals among them
+unfoldable pub log_told : World → List Call → List ℕ
+log_told w calls = log_of w (recorded_calls w calls)
 
 -- ---- what the recorded calls gave, in order; how many they are; and the card after all calls
 

@@ -1,9 +1,10 @@
 -- Demand 3, first part, of what a host calls: after every list of calls through the interface the bytes that a host holds have the registers and the
 -- waiting bits of the history. Assumes nothing.
 use mathlib.Core.Path.{◌≡◌, refl, sym, ap, ◌∙◌, subst}
-use mathlib.Core.Bool.{true, false}
+use mathlib.Core.Bool.{true, false, not}
 use mathlib.Core.List.{List, [], ◌∷◌, foldl}
 use mathlib.Core.Logic.{◌↔◌}
+use mathlib.Core.Logic.Iff
 use Prim.Native.Nat.{ℕ, ◌^◌}
 use lib.ListN.{length, take}
 use borrow.Author.Tests.{eq-eqb, ne_eqb}
@@ -17,8 +18,12 @@ use Rattle.model.specs.Vectors.{waits}
 use Rattle.model.specs.Start.{Given, given, start_refusal}
 use Rattle.model.specs.Image.{card_in}
 use Rattle.model.specs.Claims.{Typed}
-use Rattle.model.specs.Calls.{Call, Outcome, Operation, start, step, start_of, started_world}
-use Rattle.model.specs.History.{Run, entry_of, registers_by, Keeps, WaitsBy, held_by, cleared_by}
+use Rattle.model.specs.Calls.{Call, is_withdrawal, no_withdrawal, Outcome, Operation, start, step, start_of, started_world}
+use Rattle.model.specs.History.{Run, entry_of, registers_by, Keeps, WaitsStill, held_by, ended_by}
+use Rattle.model.proofs.DemandHistory.{Plain, plain-more}
+use Rattle.model.proofs.Withdrawals.{without_withdrawals}
+use Rattle.model.proofs.History.SinceLaws.{every-nil}
+use Rattle.words.proofs.BoolLaws.{both}
 use Rattle.model.proofs.CardExact.{config_in, waiting_in, card-typed}
 use Rattle.model.proofs.TypedKept.{started-typed, typed-step}
 use Rattle.model.proofs.WaitingHistory.{cleared-not, started-good}
@@ -31,8 +36,8 @@ use Rattle.model.proofs.History.Machine.{Law, bit-iff, list_keeps}
 use Rattle.model.proofs.History.HistoryCalls.{Good, entered}
 use Rattle.model.proofs.History.HistoryLaw.{entry_law, refuses}
 use Rattle.capi.specs.Crossing.{Crossed, card_after, back, crossed}
-use Rattle.capi.specs.Hosts.{Held, Lent, made, left, HostRun, answer_of, running, host_called, host_run, waiting_bit, registers_in}
-use Rattle.capi.specs.HostClaims.{left_by, Remembers}
+use Rattle.capi.specs.Hosts.{Held, Lent, made, left, HostRun, answer_of, running, host_called, host_run, lent_calls, waiting_bit, registers_in}
+use Rattle.capi.specs.HostClaims.{left_by, Remembers, RemembersStill}
 use Rattle.capi.proofs.CardFor.{read_lengths}
 use Rattle.capi.proofs.CrossingFor.{zero_read, read_through}
 use Rattle.capi.proofs.HostStep.{host_world, host_bytes, IsCard, Stepped, stays, goes, stepped, card-of, back_of}
@@ -58,7 +63,7 @@ module _ (g : Given) (ok : start_refusal g ≡ 0) (m : Mode) (v : ℕ) (h : Host
   -- the law of the call, where it leaves k
   abbrev LawAt : Held → Type 0
   LawAt k =
-      Law host_called (λ (h : HostRun). h.past) (λ (h : HostRun). waits m (host_world h.held).endpoint v) (HostGood g) (held_by g m v) (cleared_by g m v) h
+      Law host_called (λ (h : HostRun). h.past) (λ (h : HostRun). waits m (host_world h.held).endpoint v) (HostGood g) (held_by g m v) (ended_by g m v) h
       (record { held = k; past = entry_of x.calls (answer_of r) bytes ∷ h.past })
 
   refused_law : (r.refusal ≡ 0 → ⊥) → LawAt h.held
@@ -113,7 +118,7 @@ module _ (g : Given) (ok : start_refusal g ≡ 0) (t : Typed (started_world g)) 
   }
 
   law : (m : Mode) (v : ℕ) (h : HostRun) (x : Lent Call) → HostGood g h
-      → Law host_called (λ (h : HostRun). h.past) (λ (h : HostRun). waits m (host_world h.held).endpoint v) (HostGood g) (held_by g m v) (cleared_by g m v) h (host_called h x)
+      → Law host_called (λ (h : HostRun). h.past) (λ (h : HostRun). waits m (host_world h.held).endpoint v) (HostGood g) (held_by g m v) (ended_by g m v) h (host_called h x)
   unfolding host_called
   law m v h x i = call_law g ok m v h i x
 
@@ -124,11 +129,11 @@ module _ (g : Given) (ok : start_refusal g ≡ 0) (t : Typed (started_world g)) 
       registers-in (foldl host_called first calls).held ∙ all.good.same
 
   bits_kept : (calls : List (Lent Call)) (m : Mode) (v : ℕ)
-      → (waiting_bit m (host_run (host_bytes (started_world g)) calls).held v ≡ true) ↔ WaitsBy g m v (host_run (host_bytes (started_world g)) calls).past
+      → (waiting_bit m (host_run (host_bytes (started_world g)) calls).held v ≡ true) ↔ WaitsStill g m v (host_run (host_bytes (started_world g)) calls).past
   unfolding host_run
   bits_kept calls m v =
       rw (bit_in m (foldl host_called first calls).held v)
-      (bit-iff host_called (λ (h : HostRun). h.past) (λ (h : HostRun). waits m (host_world h.held).endpoint v) (HostGood g) (held_by g m v) (cleared_by g m v)
+      (bit-iff host_called (λ (h : HostRun). h.past) (λ (h : HostRun). waits m (host_world h.held).endpoint v) (HostGood g) (held_by g m v) (ended_by g m v)
       (Keeps g m v) (λ x before. cleared-not g m v x before) (λ h x i. law m v h x i) first fine refl
       (ap (λ (w : World). waits m w.endpoint v) (back_of (started_world g) t) ∙ started-waits g ok m v) calls)
 
@@ -159,10 +164,35 @@ module _ (card t p config sizes : List ℕ) (events requester : ℕ) (e : (cross
   start-leaves = ap left_by crossing ∙ ap (λ (r : Outcome). left_by (back card o r)) (start-accepted u input start_passed)
 
 -- of all that a host can hand to a start
-pub host-history : (card t p config sizes : List ℕ) (events requester : ℕ) → Bytes config → Below (256 ^ 4) sizes
-    → Remembers card t p config sizes events requester
-host-history card t p config sizes events requester b z e calls =
+pub host-still : (card t p config sizes : List ℕ) (events requester : ℕ) → Bytes config → Below (256 ^ 4) sizes
+    → RemembersStill card t p config sizes events requester
+host-still card t p config sizes events requester b z e calls =
     let g : Given = given config sizes events requester (length t) (length p) in
     let ok = start_passed card t p config sizes events requester e in
     let typed = start-typed card t p config sizes events requester e b z in
     rw (start-leaves card t p config sizes events requester e) (registers-kept g ok typed calls, bits_kept g ok typed calls)
+
+-- no entry of the past of a list without withdrawals is one
+plain-past : (h : HostRun) (calls : List (Lent Call)) → no_withdrawal (lent_calls calls) ≡ true → Plain h.past → Plain (foldl host_called h calls).past
+unfolding no_withdrawal lent_calls host_called
+plain-past h [] n p = p
+plain-past h (x ∷ l) n p =
+    let b = both (not (is_withdrawal x.calls)) (no_withdrawal (lent_calls l)) n in
+    plain-past (host_called h x) l b.1 (plain-more x.calls _ h.past refl b.0 p)
+
+plain-run : (h : Held) (calls : List (Lent Call)) → no_withdrawal (lent_calls calls) ≡ true → Plain (host_run h calls).past
+unfolding host_run
+plain-run h calls n = plain-past (record { held = h; past = [] }) calls n (every-nil (λ x before. is_withdrawal x.call ≡ false))
+
+-- and of lists without withdrawals
+pub host-history : (card t p config sizes : List ℕ) (events requester : ℕ) → Bytes config → Below (256 ^ 4) sizes
+    → Remembers card t p config sizes events requester
+host-history card t p config sizes events requester b z e calls n =
+    let g : Given = given config sizes events requester (length t) (length p) in
+    let r : HostRun = host_run (left_by (crossed card t p (start config sizes events requester))) calls in
+    let still = host-still card t p config sizes events requester b z e calls in (
+      still.0,
+      λ m v.
+          Iff.trans (still.1 m v)
+          (without_withdrawals g m v r.past (plain-run (left_by (crossed card t p (start config sizes events requester))) calls n)),
+    )

@@ -74,6 +74,11 @@ host_called h x =
 unfoldable pub host_run : Held → List (Lent Call) → HostRun
 host_run h l = foldl host_called (record { held = h; past = [] }) l
 
+-- the calls of a list without their lengths
+unfoldable pub lent_calls : List (Lent Call) → List Call
+lent_calls [] = []
+lent_calls (x ∷ l) = x.calls ∷ lent_calls l
+
 -- ---- what the bytes say
 
 -- the waiting bit of a vector: MSI's in bytes 5 to 8 of the card, MSI-X's in the pending array

@@ -2,7 +2,7 @@
 // length; the contracts are what counts.
 ghost use Rattle.std.specs.Prelude.{◌≡◌, List, ℕ, ◌^◌, length};
 ghost use Rattle.words.specs.Bytes.{Below};
-ghost use Rattle.capi.specs.HostClaims.{Remembers, ResumesBytes};
+ghost use Rattle.capi.specs.HostClaims.{Remembers, RemembersStill, ResumesBytes};
 
 use snapshot::typed::lent_bytes;
 
@@ -21,9 +21,11 @@ pub fn lent_words(words: &[u32]) -> usize
 // After a start with this configuration and these sizes that returns 0, every list of calls leaves the registers and the waiting
 // bits of its history in the bytes that the host holds.
 pub fn host_history(config: &[u8], sizes: &[u32]) -> usize
-    ensures { (result ≡ length config.now)
+    ensures remembers { (result ≡ length config.now)
         × ((card table pending : List ℕ) (events requester : ℕ)
         → Remembers card table pending config.now sizes.now events requester) }
+    ensures still { (card table pending : List ℕ) (events requester : ℕ)
+        → RemembersStill card table pending config.now sizes.now events requester }
 {
     lent_words(sizes);
     lent_bytes(config)

@@ -50,8 +50,7 @@ lent_all k bytes row l =
     (λ d. by_test (eqb k 119) (λ e. rw (a, b, d, e))
     (λ e. by_test (eqb k 87) (λ f. rw (a, b, d, e, f))
     (λ f. by_test (eqb k 108) (λ g. rw (a, b, d, e, f, g))
-    (λ g. by_test (eqb k 101) (λ h. rw (a, b, d, e, f, g, h))
-    (λ h. by_test (eqb k 100) (λ i. rw (a, b, d, e, f, g, h, i)) (λ i. rw (a, b, d, e, f, g, h, i)))))))))
+    (λ g. by_test (eqb k 101) (λ h. rw (a, b, d, e, f, g, h)) (λ h. rw (a, b, d, e, f, g, h))))))))
 
 -- ---- a call over parts of the buffers: t and p of their bytes, n of the output, which become t', p' and out'
 

@@ -20,7 +20,7 @@ config_at bytes at =
     put_at 0x40 (bytes_at bytes (at + 3) 12)
     (set (set (set (replicate 256 0) 0x06 (byte bytes at)) 0x34 (byte bytes (at + 1))) 0x3d (byte bytes (at + 2)))
 
--- ---- calls by their letter: s, r, R, w, W, l, e, d, or a save
+-- ---- calls by their letter: s, r, R, w, W, l, e, or a save
 
 unfoldable pub operation_by : ℕ → List ℕ → Row → (out : List ℕ) → Calls.Operation
 operation_by letter bytes r out =
@@ -31,14 +31,14 @@ operation_by letter bytes r out =
     (cond (eqb letter 119) (Calls.config_write r.a (r.b % 256) r.c out)
     (cond (eqb letter 87) (Calls.bar_write 0 r.a (r.b % 256) r.c out)
     (cond (eqb letter 108) (Calls.line (not (eqb r.b 0)) out)
-    (cond (eqb letter 101) (Calls.event r.a out) (cond (eqb letter 100) (Calls.withdraw r.a) (Calls.save out)))))))))
+    (cond (eqb letter 101) (Calls.event r.a out) (Calls.save out))))))))
 
 -- the length of the output that a call is lent
 unfoldable pub room_by : ℕ → Row → ℕ
 room_by letter r =
     cond (eqb letter 115) 0
     (cond (eqb letter 114) 0
-    (cond (eqb letter 82) 0 (cond (eqb letter 119) 64 (cond (eqb letter 87) 64 (cond (eqb letter 108) 64 (cond (eqb letter 100) 0 r.b))))))
+    (cond (eqb letter 82) 0 (cond (eqb letter 119) 64 (cond (eqb letter 87) 64 (cond (eqb letter 108) 64 r.b)))))
 
 abbrev pub operation_over : List ℕ → Row → (out : List ℕ) → Calls.Operation
 operation_over bytes r out = operation_by r.kind bytes r out
@@ -67,10 +67,10 @@ case_steps n bytes (suc k) l = row_steps n bytes (row_of (take 45 l)) ++ case_st
 
 -- how many rows and cases the table has
 abbrev pub row_count : ℕ
-row_count = 150
+row_count = 136
 
 abbrev pub case_count : ℕ
-case_count = 16
+case_count = 15
 
 -- its rows are the model's cases, each under its number
 abbrev pub Plays : Table → Type 0

@@ -10,7 +10,7 @@ ghost use Rattle.cases.specs.Runs.{Calls};
 use crate::row::Row;
 use crate::run::Run;
 use card::outcome::Outcome;
-use model::{Card, Vector};
+use model::Card;
 use words::parts::clipped;
 
 // The requester ID of every case.
@@ -28,7 +28,6 @@ fn room(row: Row) -> usize
         b'w' => 64,
         b'W' => 64,
         b'l' => 64,
-        b'd' => 0,
         _ => row.b as usize,
     }
 }
@@ -78,7 +77,6 @@ fn perform(
         ),
         b'l' => interrupt::line::line(card, table, pending, row.b != 0, out),
         b'e' => interrupt::event::event(card, table, pending, row.a, out),
-        b'd' => interrupt::withdraw::withdraw(card, table, pending, Vector(row.a)),
         _ => snapshot::save::save(card, table, pending, out),
     }
 }

@@ -1,4 +1,4 @@
-// The bench cases of document 01, and those of requests [6] and [3] of document 02, run on the code. Each call prints a line, and the packets that it sent.
+// The bench cases of document 01, and those of request [6] of document 02, run on the code. Each call prints a line, and the packets that it sent.
 // This file prints: what a call gives, and whether that is right, is in the modules.
 #![tactic(auto)]
 
@@ -125,28 +125,17 @@ fn print_packets(rt: &impl Print, s: &[u8]) {
     }
 }
 
-// A withdrawal's value says whether the vector was waiting; any other is shown with as many bytes as were read.
-fn print_value(rt: &impl Print, row: Row, v: u64) {
-    if row.kind != b'd' {
-        text(rt, b"value ");
-        number(rt, v, (row.b % 256) as u8);
-        return;
-    }
-    if v != 0 {
-        text(rt, b"was set");
-    } else {
-        text(rt, b"was not set");
-    }
-}
-
-fn print_answer(rt: &impl Print, row: Row, a: Answer) {
+fn print_answer(rt: &impl Print, a: Answer, width: u8) {
     match a {
         Answer::Refused(n) => {
             text(rt, b"refused with ");
             decimal(rt, n as u64);
         }
         Answer::Done => text(rt, b"done"),
-        Answer::Value(v) => print_value(rt, row, v),
+        Answer::Value(v) => {
+            text(rt, b"value ");
+            number(rt, v, width);
+        }
         Answer::Sent => text(rt, b"sent"),
         Answer::Held => text(rt, b"held"),
         Answer::Merged => text(rt, b"merged"),
@@ -231,12 +220,6 @@ fn print_event(rt: &impl Print, row: Row) {
     text(rt, b" bytes: ");
 }
 
-fn print_withdrawal(rt: &impl Print, row: Row) {
-    text(rt, b"  withdraw vector ");
-    decimal(rt, row.a as u64);
-    text(rt, b": ");
-}
-
 // The start of a call's line: its arguments.
 fn print_call(rt: &impl Print, row: Row, bytes: &[u8]) {
     let letter = row.kind;
@@ -259,7 +242,6 @@ fn print_call(rt: &impl Print, row: Row, bytes: &[u8]) {
             print_access(rt, row, 2, true);
         }
         b'e' => print_event(rt, row),
-        b'd' => print_withdrawal(rt, row),
         b'l' => if row.b != 0 {
             text(rt, b"  line high: ")
         } else {
@@ -313,10 +295,10 @@ fn is_result(row: Row) -> bool {
     (row.kind != b'k') & ((row.size != 0) | (row.answer != b'd') | (row.shown == b'v'))
 }
 
-// The end of a call's line, its packets or image, and whether it gave what it should.
+// The end of a call's line, its packets or image, and whether it gave what it should. A value is shown with as many bytes as were read.
 fn print_result(rt: &impl Print, row: Row, o: Outcome, out: &[u8], good: bool) {
     let answer = o.answer;
-    print_answer(rt, row, answer);
+    print_answer(rt, answer, (row.b % 256) as u8);
     let sent = part(out, 0, o.count);
     let letter = row.kind;
     match letter {

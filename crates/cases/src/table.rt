@@ -1,9 +1,9 @@
-// The bench cases of document 01, and those of requests [6] and [3] of document 02, as one table of steps.
+// The bench cases of document 01, and those of request [6] of document 02, as one table of steps.
 ghost use Rattle.cases.specs.Steps.{Plays};
 
-pub const CASE_COUNT: u8 = 16;
+pub const CASE_COUNT: u8 = 15;
 
-pub const ROW_COUNT: usize = 150;
+pub const ROW_COUNT: usize = 136;
 
 // A row is a step of a case, in 45 characters:
 //
@@ -17,7 +17,6 @@ pub const ROW_COUNT: usize = 150;
 //   Read, Write      the same of BAR 0
 //   event            number A, over an output of B bytes
 //   line             low or high
-//   drop             withdraws vector A
 //   image            save over an output of B bytes
 //   keep, comp       the same; the first prints no image, the second says whether it is the first one's
 //
@@ -27,7 +26,7 @@ pub const ROW_COUNT: usize = 150;
 #[derive(Clone, Copy)]
 pub struct Table {
     pub rows: [u8; 45 * ROW_COUNT],
-    pub bytes: [u8; 2117],
+    pub bytes: [u8; 2029],
 }
 
 // What calls should send, with place and length. Where document 01 gives no bytes, they follow from its section on packets.
@@ -35,7 +34,7 @@ pub struct Table {
 //   0000  16  MSI, data 49A1h: byte for byte in document 01 (cases 1, 2, 3 and 12)
 //   0010  16  MSI, data 0045h: document 01 gives the data (case 4)
 //   0020  16  MSI, data 49A3h: event 7, vector 3 (case 12)
-//   0030  20  MSI-X, data 33h (cases 7 and 16)
+//   0030  20  MSI-X, data 33h (case 7)
 //   0044  40  MSI-X, data 32h, then data 39h (case 8)
 //   006C  16  Assert_INTA: byte for byte in document 01 (cases 6 and 10)
 //   007C  16  Deassert_INTA (case 6)
@@ -45,7 +44,7 @@ pub struct Table {
 //   05C4 294  the image of case 1's card before its event (case 12)
 //   06EA  16  MSI, data ABCD49A1h (case 14)
 //
-// The titles stand before the last image, those of cases 14 to 16 behind it. Configurations: Status, the place of the first capability, the pin, and the bytes 40h to 4Bh. Every other byte is 0.
+// The titles stand before the last image, those of cases 14 and 15 behind it. Configurations: Status, the place of the first capability, the pin, and the bytes 40h to 4Bh. Every other byte is 0.
 //
 //   00A0  MSI of the 32-bit form without masks, Capable 3
 //   00AF  MSI-X with 1 vector, its table at the start of BAR 0, its pending array at 1000h of it
@@ -56,7 +55,7 @@ pub struct Table {
 //   0104  no capability, no pin
 //   06FA  MSI of the 32-bit form without masks, Capable 2, with control bit 9
 //   0709  the same with control bit 10 in place of bit 9, and 1234h behind the data register
-const BYTES: [u8; 2117] = *b"\x40\x00\x00\x01\x01\x00\x00\x0f\xfe\xe0\x00\x00\xa1\x49\x00\x00\
+const BYTES: [u8; 2029] = *b"\x40\x00\x00\x01\x01\x00\x00\x0f\xfe\xe0\x00\x00\xa1\x49\x00\x00\
 \x40\x00\x00\x01\x01\x00\x00\x0f\xfe\xe0\x00\x00\x45\x00\x00\x00\
 \x40\x00\x00\x01\x01\x00\x00\x0f\xfe\xe0\x00\x00\xa3\x49\x00\x00\
 \x60\x00\x00\x01\x01\x00\x00\x0f\x00\x00\x00\x01\xfe\xe0\x10\x00\x33\x00\x00\x00\
@@ -104,8 +103,7 @@ Case 12, continued: output of 15 bytes in case 1: 6, state unchanged; 16: sent\n
 \x10\x40\x01\x05\x00\x04\x02\x00\x00\x00\x00\x00\x00\x00\x00\
 \x10\x40\x01\x05\x00\x04\x04\x00\x00\x00\x00\x00\x00\x34\x12\
 Case 14: MSI with bits 9 and 10, data ABCD49A3h, Enable 2, event 1: all 32 bits; bit 10 cleared: upper half 0\n\
-Case 15: bit 10 and an upper half 1234h without bit 9: neither can be written, the message has 0 there\n\
-Case 16: a masked channel is emptied and its vector withdrawn: the unmask sends nothing\n";
+Case 15: bit 10 and an upper half 1234h without bit 9: neither can be written, the message has 0 there\n";
 
 const ROWS: [u8; 45 * ROW_COUNT] = *b"01 new   ---- 000 -------- ---- -- 0220 073 -\
 01 start 0000 004 00000000 done -- 00A0 --- -\
@@ -242,21 +240,7 @@ const ROWS: [u8; 45 * ROW_COUNT] = *b"01 new   ---- 000 -------- ---- -- 0220 07
 15 read  0048 004 123449A3 val  -- ---- --- -\
 15 event 0001 040 -------- sent -- 0000 016 -\
 15 write 0042 002 00000021 done -- ---- --- -\
-15 read  0042 002 00000425 val  -- ---- --- s\
-16 new   ---- 004 -------- ---- -- 07ED 088 -\
-16 start 0000 004 00002000 done -- 00BE --- -\
-16 write 0004 002 00000006 done -- ---- --- -\
-16 Write 0030 004 FEE01000 done -- ---- --- -\
-16 Write 0034 004 00000001 done -- ---- --- -\
-16 Write 0038 004 00000033 done -- ---- --- -\
-16 write 0042 002 00008000 done -- ---- --- -\
-16 event 0003 040 -------- held -- ---- --- -\
-16 Read  1000 008 00000008 val  -- ---- --- -\
-16 drop  0003 --- 00000001 val  -- ---- --- -\
-16 Read  1000 008 00000000 val  -- ---- --- -\
-16 drop  0003 --- 00000000 val  -- ---- --- -\
-16 Write 003C 004 00000000 done -- ---- --- v\
-16 event 0003 040 -------- sent -- 0030 020 s";
+15 read  0042 002 00000425 val  -- ---- --- s";
 
 // The table. Its rows are the model's cases.
 pub fn bench() -> Table

@@ -1,4 +1,5 @@
 pub mod WaitingHistory
+pub mod DemandHistory
 pub mod EveryVector
 pub mod HistoryBits
 pub mod RestoreResumes

@@ -12,7 +12,7 @@ use Rattle.model.specs.World.{World, registers}
 use Rattle.model.specs.Vectors.{waits}
 use Rattle.model.specs.Start.{Given, start_refusal}
 use Rattle.model.specs.Calls.{Call, Outcome, started_world, start_given, start_of, start, operate}
-use Rattle.model.specs.History.{Entry, Past, Run, called, run, registers_by, resets, open_by, held_by, withdrawn_by, cleared_by, Keeps, WaitsBy}
+use Rattle.model.specs.History.{Entry, Past, Run, called, run, registers_by, resets, open_by, held_by, withdrawn_by, ended_by, Keeps, WaitsStill}
 use Rattle.model.proofs.History.Machine.{bit-iff, list_keeps}
 use Rattle.model.proofs.Calls.CallLaws.{answered_elim}
 use Rattle.model.proofs.Sound.StartLaws.{started-sound, started-waits}
@@ -22,8 +22,8 @@ use Rattle.model.proofs.History.HistoryReset.{started-registers}
 use Rattle.model.proofs.History.HistoryLaw.{call_law}
 
 -- the bit is not cleared: no accepted reset, no accepted withdrawal of the vector, and it is not left open
-pub cleared-not : (g : Given) (m : Mode) (v : ℕ) (x : Entry) (before : Past) → (cleared_by g m v x before ≡ false) ↔ Keeps g m v x before
-unfolding cleared_by
+pub cleared-not : (g : Given) (m : Mode) (v : ℕ) (x : Entry) (before : Past) → (ended_by g m v x before ≡ false) ↔ Keeps g m v x before
+unfolding ended_by
 cleared-not g m v x before = (
   λ e. let p = neither (resets x) (withdraws || opens) e in let q = neither withdraws opens p.1 in (p.0, q.0, q.1),
   λ p. or_intro (resets x) (withdraws || opens) p.0 (or_intro withdraws opens p.1 p.2),
@@ -40,10 +40,10 @@ pub started-good : (g : Given) → start_refusal g ≡ 0 → Good g (record { wo
 started-good g ok = record { is_sound = started-sound g ok; same = started-registers g ∙ sym (registers-none g) }
 
 from_start : (g : Given) → start_refusal g ≡ 0 → (calls : List Call) (m : Mode) (v : ℕ)
-    → (waits m (run (started_world g) calls).world.endpoint v ≡ true) ↔ WaitsBy g m v (run (started_world g) calls).past
+    → (waits m (run (started_world g) calls).world.endpoint v ≡ true) ↔ WaitsStill g m v (run (started_world g) calls).past
 unfolding run started_world
 from_start g ok calls m v =
-    bit-iff called (λ r. r.past) (λ r. waits m r.world.endpoint v) (Good g) (held_by g m v) (cleared_by g m v)
+    bit-iff called (λ r. r.past) (λ r. waits m r.world.endpoint v) (Good g) (held_by g m v) (ended_by g m v)
     (Keeps g m v) (λ x before. cleared-not g m v x before)
     (λ r c i. call_law g ok m v r i c)
     (record { world = started_world g; past = [] })
@@ -63,16 +63,16 @@ start_elim w₀ config sizes events requester P f =
 -- Take a card just started, not refused, and then every list of calls, refused ones included. After it each vector's waiting bit is one exactly if,
 -- since the start or the last accepted reset, an accepted event for that vector came while its mechanism was in force and the vector was shut,
 -- no later call left it open, and no withdrawal of that vector was accepted since. What was in force, granted and open is read off the start's input and the calls with their answers
-pub waiting_history : (w₀ : World) (config sizes : List ℕ) (events requester : ℕ)
+pub withdrawal_history : (w₀ : World) (config sizes : List ℕ) (events requester : ℕ)
     → is_accepted (operate w₀ (start config sizes events requester)).answer ≡ true
     → (calls : List Call) (m : Mode) (v : ℕ)
     → let g : Given = start_given w₀.endpoint config sizes events requester in
     let r : Run = run (operate w₀ (start config sizes events requester)).world calls in
-    (waits m r.world.endpoint v ≡ true) ↔ WaitsBy g m v r.past
-waiting_history w₀ config sizes events requester a calls m v =
+    (waits m r.world.endpoint v ≡ true) ↔ WaitsStill g m v r.past
+withdrawal_history w₀ config sizes events requester a calls m v =
     let g : Given = start_given w₀.endpoint config sizes events requester in
     start_elim w₀ config sizes events requester
-    (λ (w : World). (waits m (run w calls).world.endpoint v ≡ true) ↔ WaitsBy g m v (run w calls).past)
+    (λ (w : World). (waits m (run w calls).world.endpoint v ≡ true) ↔ WaitsStill g m v (run w calls).past)
     (λ z. from_start g z calls m v) a
 
 -- and the card's registers are those that the history gives

@@ -29,7 +29,7 @@ use Rattle.model.specs.Calls.{refusal, Outcome, accepted, step, start_given, Ope
 use Rattle.model.specs.Trials.{outcomes}
 use Rattle.model.specs.Claims.{Withdrawn}
 use Rattle.model.specs.Since.{Since, Every}
-use Rattle.model.specs.History.{Entry, Past, Run, run, resets, open_by, is_event_for, is_withdrawal_of, held_by, withdrawn_by, WaitsBy}
+use Rattle.model.specs.History.{Entry, Past, Run, run, is_event_for, is_withdrawal_of, held_by, withdrawn_by, WaitsBy, WaitsStill}
 use Rattle.model.proofs.Sound.SoundLaws.{is-sound}
 use Rattle.model.proofs.Vectors.WaitingLaws.{InRange, only_registers, change_only, change_back, waits-set}
 use Rattle.model.proofs.Vectors.SweepLaws.{force_refl}
@@ -44,7 +44,7 @@ use Rattle.model.proofs.SoundKept.{effect_sound}
 use Rattle.model.proofs.Refusals.{refusal-number, room_exact}
 use Rattle.model.proofs.History.SinceLaws.{since_apart, since_same}
 use Rattle.model.proofs.History.HistoryCalls.{idle-held, idle-withdrawn}
-use Rattle.model.proofs.WaitingHistory.{waiting_history}
+use Rattle.model.proofs.WaitingHistory.{withdrawal_history}
 
 -- ---- refusals
 
@@ -219,7 +219,7 @@ no_stale w₀ config sizes events requester a calls m v s =
     by_test (waits m r.world.endpoint v)
     (λ t.
     absurd (since_apart (λ x b d h. never_both g m v x b d h) (λ x b e k. true≢false (sym e ∙ k.1)) (λ x b n h. true≢false (sym h ∙ n)) r.past s
-    ((waiting_history w₀ config sizes events requester a calls m v).0 t)))
+    ((withdrawal_history w₀ config sizes events requester a calls m v).0 t)))
     (λ t. t)
 
 -- and what does not wait is not released
@@ -232,7 +232,7 @@ released_waits m s u v e =
 
 -- in a past without withdrawals the condition is document 01's: no accepted reset, and no call left the vector open
 pub without_withdrawals : (g : Given) (m : Mode) (v : ℕ) (past : Past) → Every (λ x before. is_withdrawal x.call ≡ false) past
-    → WaitsBy g m v past ↔ Since (λ x before. held_by g m v x before ≡ true) (λ x before. (resets x ≡ false) × (open_by g (x ∷ before) m v ≡ false)) past
+    → WaitsStill g m v past ↔ WaitsBy g m v past
 without_withdrawals g m v past e = (
   since_same (λ x before. is_withdrawal x.call ≡ false) (λ x b _ k. (k.0, k.2)) past e,
   since_same (λ x before. is_withdrawal x.call ≡ false) (λ x b n k. (k.0, no-withdrawal g m v x b n, k.1)) past e,

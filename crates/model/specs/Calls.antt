@@ -1,5 +1,5 @@
 -- Every call as one total function: for each its refusals, the world after it, the bytes that it sends and its answer. Assumes nothing.
-use Rattle.std.specs.Prelude.{Bool, true, false, not, cond, ◌||◌, List, [], ◌∷◌, ◌++◌, ℕ, ◌%◌, ltb, leb, eqb, length}
+use Rattle.std.specs.Prelude.{Bool, true, false, not, cond, ◌&&◌, ◌||◌, List, [], ◌∷◌, ◌++◌, ℕ, ◌%◌, ltb, leb, eqb, length}
 use Rattle.words.specs.Lists.{first_of}
 use Rattle.words.specs.Bytes.{bytes_of, number}
 use Rattle.words.specs.Writers.{over}
@@ -49,6 +49,11 @@ is_withdrawal (line level out) = false
 is_withdrawal (reset out) = false
 is_withdrawal (save out) = false
 is_withdrawal (withdraw v) = true
+
+-- no call of a list is a withdrawal
+unfoldable pub no_withdrawal : List Call → Bool
+no_withdrawal [] = true
+no_withdrawal (c ∷ cs) = not (is_withdrawal c) && no_withdrawal cs
 
 -- what a call gives: `count` bytes of the output are new
 pub record Outcome : Type 0 where

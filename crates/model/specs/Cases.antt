@@ -238,6 +238,10 @@ case15 =
 abbrev pub data_cases : List (List Step)
 data_cases = case14 ∷ case15 ∷ []
 
+-- the bench cases in the order of their numbers
+abbrev pub bench_cases : List (List Step)
+bench_cases = starred_cases ++ limit_cases ++ data_cases
+
 -- ---- case 16: a channel is masked, its cause comes and is satisfied
 
 -- its vector is withdrawn, which was waiting and then is not; the unmask sends nothing, and the next event is sent
@@ -250,10 +254,6 @@ case16 =
 
 abbrev pub withdraw_cases : List (List Step)
 withdraw_cases = case16 ∷ []
-
--- the bench cases in the order of their numbers
-abbrev pub bench_cases : List (List Step)
-bench_cases = starred_cases ++ limit_cases ++ data_cases ++ withdraw_cases
 
 -- ---- for the errors that tempt
 

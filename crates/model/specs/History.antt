@@ -186,13 +186,23 @@ is_withdrawal_of g past m v (withdraw x) = in_force m (shape_of g.config) (regis
 unfoldable pub held_by : Given → Mode → ℕ → Entry → Past → Bool
 held_by g m v x before = is_accepted x.answer && is_event_for g before m v x.call && not (open_by g before m v)
 
+-- an accepted reset clears the bit, and so does every call after which the vector is open, by the bits just after that call
+unfoldable pub cleared_by : Given → Mode → ℕ → Entry → Past → Bool
+cleared_by g m v x before = resets x || open_by g (x ∷ before) m v
+
+-- such an event came, and since then there was no accepted reset and no call left the vector open, by the bits just after that call
+abbrev pub WaitsBy : Given → Mode → ℕ → Past → Type 0
+WaitsBy g m v = Since (λ x before. held_by g m v x before ≡ true) (λ x before. (resets x ≡ false) × (open_by g (x ∷ before) m v ≡ false))
+
+-- ---- the same where withdrawals are among the calls
+
 -- an accepted withdrawal of the vector while its mechanism was in force, by the bits just before it
 unfoldable pub withdrawn_by : Given → Mode → ℕ → Entry → Past → Bool
 withdrawn_by g m v x before = is_accepted x.answer && is_withdrawal_of g before m v x.call
 
--- an accepted reset clears the bit, an accepted withdrawal of the vector does, and every call after which the vector is open, by the bits just after it
-unfoldable pub cleared_by : Given → Mode → ℕ → Entry → Past → Bool
-cleared_by g m v x before = resets x || (withdrawn_by g m v x before || open_by g (x ∷ before) m v)
+-- an accepted reset ends the waiting, an accepted withdrawal of the vector does, and every call after which the vector is open, by the bits just after it
+unfoldable pub ended_by : Given → Mode → ℕ → Entry → Past → Bool
+ended_by g m v x before = resets x || (withdrawn_by g m v x before || open_by g (x ∷ before) m v)
 
 -- none of the three
 abbrev pub Keeps : Given → Mode → ℕ → Entry → Past → Type 0
@@ -200,8 +210,8 @@ Keeps g m v x before = (resets x ≡ false) × (withdrawn_by g m v x before ≡ 
 
 -- such an event came, and since then there was no accepted reset, no accepted withdrawal of the vector, and no call left the vector open, by the bits
 -- just after that call
-abbrev pub WaitsBy : Given → Mode → ℕ → Past → Type 0
-WaitsBy g m v = Since (λ x before. held_by g m v x before ≡ true) (Keeps g m v)
+abbrev pub WaitsStill : Given → Mode → ℕ → Past → Type 0
+WaitsStill g m v = Since (λ x before. held_by g m v x before ≡ true) (Keeps g m v)
 
 -- a vector is an MSI-X one below N or an MSI one below 32
 unfoldable pub is_vector : Shape → Mode → ℕ → Bool

@@ -2,7 +2,7 @@
 use Rattle.std.specs.Prelude.{true, false, List, [], ◌∷◌, ◌++◌, ℕ, ◌-◌, take, replicate}
 use Rattle.std.proofs.Math.Option.{Option, none, some}
 use Rattle.words.specs.Bits.{of_bool}
-use Rattle.model.specs.Calls.{config_read, config_write, bar_read, bar_write, event, line, reset, save, withdraw}
+use Rattle.model.specs.Calls.{config_read, config_write, bar_read, bar_write, event, line, reset, save}
 use Rattle.call_log.specs.declared.Record.{Record}
 use Rattle.call_log.specs.declared.Record.TheVariants.{Event, Line, ConfigWrite, BarWrite, Reset}
 use Rattle.call_log.specs.Logs.{header, size_of, bytes_in, record_in, call_of, record_of}
@@ -85,18 +85,17 @@ calls =
     ++ called (ConfigWrite 0x3456 7 0x89abcdef) (3 ∷ 0x3456 ∷ 7 ∷ 0x89abcdef ∷ [])
     ++ called (BarWrite 5 0x12345678 9 0xfedcba9876543210) (4 ∷ 5 ∷ 0x12345678 ∷ 9 ∷ 0xfedcba9876543210 ∷ []) ++ called Reset (5 ∷ [])
 
-abbrev fields_if : Option Record → List ℕ
+abbrev pub fields_if : Option Record → List ℕ
 fields_if none = []
 fields_if (some r) = record_fields r
 
--- reads and saves have no record, nor has a withdrawal
+-- reads and saves have no record
 abbrev pub call_records : List (ℕ × ℕ)
 call_records =
     equal (1 ∷ 0x1234 ∷ []) (fields_if (record_of (event 0x1234 []))) ∷ equal (2 ∷ 0 ∷ []) (fields_if (record_of (line false [])))
     ∷ equal (2 ∷ 1 ∷ []) (fields_if (record_of (line true []))) ∷ equal (3 ∷ 4 ∷ 2 ∷ 0x1027 ∷ []) (fields_if (record_of (config_write 4 2 0x1027 [])))
     ∷ equal (4 ∷ 1 ∷ 16 ∷ 8 ∷ 0x1027 ∷ []) (fields_if (record_of (bar_write 1 16 8 0x1027 []))) ∷ equal (5 ∷ []) (fields_if (record_of (reset [])))
-    ∷ equal [] (fields_if (record_of (config_read 4 2))) ∷ equal [] (fields_if (record_of (bar_read 1 16 8))) ∷ equal [] (fields_if (record_of (save [])))
-    ∷ equal [] (fields_if (record_of (withdraw 3))) ∷ []
+    ∷ equal [] (fields_if (record_of (config_read 4 2))) ∷ equal [] (fields_if (record_of (bar_read 1 16 8))) ∷ equal [] (fields_if (record_of (save []))) ∷ []
 
 abbrev pub formats : List (ℕ × ℕ)
 formats = marks ++ versions ++ kinds ++ levels ++ sizes ++ short_records ++ long_records ++ calls ++ call_records

@@ -9,8 +9,9 @@ use Rattle.model.specs.World.{World}
 use Rattle.model.specs.Start as Start
 use Rattle.model.specs.Cases.{wire_packet, msi_card, sizes_of}
 use Rattle.call_log.specs.declared.Record.TheVariants.{Event, Line, ConfigWrite, BarWrite, Reset}
-use Rattle.call_log.specs.Logs.{header, bytes_in}
-use Rattle.call_log.specs.Recorder.{Appended, logged, appended, recorded_calls, log_of, given, numbered, left}
+use Rattle.call_log.specs.Logs.{header, bytes_in, record_of}
+use Rattle.call_log.specs.Examples.Formats.{fields_if}
+use Rattle.call_log.specs.Recorder.{Appended, logged, appended, recorded_calls, log_of, log_told, given, numbered, left}
 use Rattle.call_log.specs.Examples.Parts.{mark, event_bytes, equal, answers}
 use Rattle.call_log.specs.Examples.Hosts.{pin_card}
 
@@ -60,6 +61,9 @@ logs =
     ∷ equal (2 ∷ 0 ∷ 0 ∷ wire_packet 0x22 ++ (3 ∷ 4 ∷ 0 ∷ wire_packet 0x26)) (answers (given pin_card made)) ∷ (6, numbered 0 pin_card made) ∷ (0, of_bool (left pin_card made).wire)
     ∷ (1, of_bool (left pin_card (line true (replicate 16 0) ∷ [])).wire) ∷ equal mark (log_of pin_card []) ∷ []
 
+abbrev pub recordings : List (ℕ × ℕ)
+recordings = kept ++ appending ++ logs
+
 -- ---- request [3]: an accepted withdrawal ends the log, whether its bit was set or not; a refused one does not
 
 -- MSI with Capable 3, and eight events
@@ -73,12 +77,13 @@ withdrawing v = withdraw 0 ∷ config_write 0x42 2 0x31 [] ∷ withdraw 8 ∷ ev
 -- the log has the write and the first event; bit 5 waits where it ends, and the event behind it is not told of
 abbrev ends : (v : ℕ) → List (ℕ × ℕ)
 ends v =
-    equal (mark ++ (3 ∷ 0x42 ∷ 0 ∷ 2 ∷ 0x31 ∷ 0 ∷ 0 ∷ 0 ∷ []) ++ (1 ∷ 5 ∷ 0 ∷ [])) (log_of msi_world (withdrawing v))
+    equal (mark ++ (3 ∷ 0x42 ∷ 0 ∷ 2 ∷ 0x31 ∷ 0 ∷ 0 ∷ 0 ∷ []) ++ (1 ∷ 5 ∷ 0 ∷ [])) (log_told msi_world (withdrawing v))
     ∷ (4, length (recorded_calls msi_world (withdrawing v)))
     ∷ (0x20, (left msi_world (recorded_calls msi_world (withdrawing v))).endpoint.function.waiting) ∷ []
 
-abbrev pub withdrawn : List (ℕ × ℕ)
-withdrawn = ends 5 ++ ends 4 ++ ((0x40, (left msi_world (withdrawing 5)).endpoint.function.waiting) ∷ (0x60, (left msi_world (withdrawing 4)).endpoint.function.waiting) ∷ [])
+-- a withdrawal has no record
+abbrev no_records : List (ℕ × ℕ)
+no_records = equal [] (fields_if (record_of (withdraw 3))) ∷ []
 
-abbrev pub recordings : List (ℕ × ℕ)
-recordings = kept ++ appending ++ logs ++ withdrawn
+abbrev pub withdrawn : List (ℕ × ℕ)
+withdrawn = ends 5 ++ ends 4 ++ no_records ++ ((0x40, (left msi_world (withdrawing 5)).endpoint.function.waiting) ∷ (0x60, (left msi_world (withdrawing 4)).endpoint.function.waiting) ∷ [])

@@ -16,9 +16,9 @@ use Rattle.model.specs.Calls.{Operation, Outcome, operate, lent_output}
 use Rattle.model.specs.World.{world_of, card_of}
 use Rattle.model.specs.Answers.{same_answer}
 use Rattle.model.specs.Play.{Step, lends, does, Played, fresh, right, unplayed, played, played_all, passes, all_pass}
-use Rattle.model.specs.Cases.{starred_cases, limit_cases, data_cases, withdraw_cases, bench_cases}
+use Rattle.model.specs.Cases.{starred_cases, limit_cases, data_cases, bench_cases}
 use Rattle.model.proofs.Calls.AnswerLaws.{same-equal}
-use Rattle.model.proofs.Starred.{starred, limits, data32, withdrawing}
+use Rattle.model.proofs.Starred.{starred, limits, data32}
 
 -- ---- a call
 
@@ -98,6 +98,5 @@ case_passes f i (suc n) e k h j =
 
 pub bench_pass : all_pass bench_cases ≡ true
 bench_pass =
-    all_append starred_cases (limit_cases ++ data_cases ++ withdraw_cases) (of_T (all_pass starred_cases) starred)
-    (all_append limit_cases (data_cases ++ withdraw_cases) (of_T (all_pass limit_cases) limits)
-    (all_append data_cases withdraw_cases (of_T (all_pass data_cases) data32) (of_T (all_pass withdraw_cases) withdrawing)))
+    all_append starred_cases (limit_cases ++ data_cases) (of_T (all_pass starred_cases) starred)
+    (all_append limit_cases data_cases (of_T (all_pass limit_cases) limits) (of_T (all_pass data_cases) data32))

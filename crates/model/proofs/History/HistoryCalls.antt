@@ -15,7 +15,7 @@ use Rattle.model.specs.Vectors.{is_open, waits}
 use Rattle.model.specs.Release.{settled}
 use Rattle.model.specs.Start.{Given, start_refusal}
 use Rattle.model.specs.Sound.{sound, shape}
-use Rattle.model.specs.History.{Entry, Past, Location, Run, called, resets, wrote, registers_by, open_by, is_event_for, held_by, is_withdrawal_of, withdrawn_by, cleared_by}
+use Rattle.model.specs.History.{Entry, Past, Location, Run, called, resets, wrote, registers_by, open_by, is_event_for, held_by, is_withdrawal_of, withdrawn_by, ended_by}
 use Rattle.model.proofs.History.Machine.{Law, bit_after, bit-withdrawn}
 use Rattle.model.proofs.Vectors.WaitingLaws.{OnlyWaiting, only_refl, only_registers}
 use Rattle.model.proofs.Vectors.SweepLaws.{swept_only, swept-waits}
@@ -36,7 +36,7 @@ entered r x w = record { world = w; past = x ∷ r.past }
 
 -- the law of one call, for vector v of the mechanism m
 abbrev pub LawOf : Given → Mode → ℕ → Run → Run → Type 0
-LawOf g m v = Law called (λ r. r.past) (λ r. waits m r.world.endpoint v) (Good g) (held_by g m v) (cleared_by g m v)
+LawOf g m v = Law called (λ r. r.past) (λ r. waits m r.world.endpoint v) (Good g) (held_by g m v) (ended_by g m v)
 
 pub open_same : (g : Given) (m : Mode) (v : ℕ) (p q : Past) → registers_by g p ≡ registers_by g q → open_by g p m v ≡ open_by g q m v
 unfolding open_by
@@ -44,8 +44,8 @@ open_same g m v p q e = ap (λ (r : Registers). is_open m (shape_of g.config) r 
 
 -- an entry that is no reset clears what it withdraws and what it leaves open
 no_reset : (g : Given) (m : Mode) (v : ℕ) (x : Entry) (past : Past) → resets x ≡ false
-    → cleared_by g m v x past ≡ (withdrawn_by g m v x past || open_by g (x ∷ past) m v)
-unfolding cleared_by
+    → ended_by g m v x past ≡ (withdrawn_by g m v x past || open_by g (x ∷ past) m v)
+unfolding ended_by
 no_reset g m v x past e = rw e
 
 -- held needs an accepted event

@@ -10,7 +10,7 @@ use Rattle.model.specs.Vectors.{waits}
 use Rattle.model.specs.Start.{Given, start_refusal, started}
 use Rattle.model.specs.Sound.{given_of, sound, shape}
 use Rattle.model.specs.Calls.{reset_endpoint}
-use Rattle.model.specs.History.{Entry, Run, resets, start_registers, held_by, cleared_by}
+use Rattle.model.specs.History.{Entry, Run, resets, start_registers, held_by, ended_by}
 use Rattle.model.proofs.History.Machine.{bit_after}
 use Rattle.model.proofs.Sound.StartLaws.{started-waits}
 use Rattle.model.proofs.History.HistoryShape.{restart_by}
@@ -26,7 +26,7 @@ pub resetting : (g : Given) → start_refusal g ≡ 0 → (m : Mode) (v : ℕ) (
     → sound (record { endpoint = reset_endpoint r.world.endpoint; wire = wire }) ≡ true
     → resets x ≡ true → held_by g m v x r.past ≡ false
     → LawOf g m v r (entered r x (record { endpoint = reset_endpoint r.world.endpoint; wire = wire }))
-unfolding reset_endpoint started start_registers shape cleared_by
+unfolding reset_endpoint started start_registers shape ended_by
 resetting g ok m v r i x wire k e h = record {
   entry = x;
   longer = refl;
@@ -39,7 +39,7 @@ resetting g ok m v r i x wire k e h = record {
     u : Endpoint
     u = r.world.endpoint
 
-    cleared : cleared_by g m v x r.past ≡ true
+    cleared : ended_by g m v x r.past ≡ true
     cleared = rw e
 
     gone : (a : Bool) → bit_after false a true ≡ false

@@ -73,18 +73,13 @@ unfolding operation_by
 returns-7 c =
     by_letter (start c.before.before.before.before.before.before.before.before) 101 c.in-101.is c.event.ensures
 
-returns-8 : tie.Need-returns-in-100
-unfolding operation_by room_by
-returns-8 c =
-    silent (start c.before.before.before.before.before) 100 _ _ _ c.in-100.is refl c.withdraw.ensures
-
-returns-9 : tie.Need-returns-in_default
+returns-8 : tie.Need-returns-in_default
 unfolding operation_by
-returns-9 c =
+returns-8 c =
     let n = c.in_default.in_default-own.rest in
     let m = n.0.0.0 in
-    rw (ne_eqb _ 115 m.0.0.0.0.1, ne_eqb _ 114 m.0.0.0.1, ne_eqb _ 82 m.0.0.1, ne_eqb _ 119 m.0.1, ne_eqb _ 87 m.1)
-    (rw (ne_eqb _ 108 n.0.0.1, ne_eqb _ 101 n.0.1, ne_eqb _ 100 n.1) c.save.ensures)
+    rw (ne_eqb _ 115 m.0.0.0.1, ne_eqb _ 114 m.0.0.1, ne_eqb _ 82 m.0.1, ne_eqb _ 119 m.1, ne_eqb _ 87 n.0.0.1)
+    (rw (ne_eqb _ 108 n.0.1, ne_eqb _ 101 n.1) c.save.ensures)
 
 pub perform_spec : {M : Type 1} → statement M
 perform_spec =
@@ -92,7 +87,7 @@ perform_spec =
     (tie.spec
     (λ c. search rules) (λ c κs. search rules) (λ c κs. search rules) (λ c. search rules) (λ c κs. search rules)
     (λ c κs. search rules) (λ c. search rules) (λ c. search rules) (λ c κs. search rules) (λ c κs. search rules)
-    (λ c κs. search rules) (λ c κs. search rules) (λ c κs. search rules) (λ c. search rules) (λ c. search rules)
+    (λ c κs. search rules) (λ c κs. search rules) (λ c. search rules) (λ c. search rules)
     returns
     (λ c. search rules) (λ c. search rules)
     returns-2
@@ -106,7 +101,5 @@ perform_spec =
     returns-6
     (λ c. search rules) (λ c. search rules) (λ c. search rules)
     returns-7
-    (λ c. search rules) (λ c. search rules)
-    returns-8
     (λ c. search rules) (λ c. search rules) (λ c. search rules)
-    returns-9)
+    returns-8)

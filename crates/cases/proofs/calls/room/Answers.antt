@@ -32,14 +32,9 @@ pub returns-in-108 : goal.returns-in-108
 unfolding room_by
 returns-in-108 c = by_letter c.args.row 108 c.in-108.is
 
-pub returns-in-100 : goal.returns-in-100
-unfolding room_by
-returns-in-100 c = by_letter c.args.row 100 c.in-100.is
-
 pub returns-in_default : goal.returns-in_default
 unfolding room_by
 returns-in_default c =
     let n = c.in_default.in_default-own.rest in
     let m = n.0.0.0 in
-    rw (ne_eqb _ 115 m.0.0.0.1, ne_eqb _ 114 m.0.0.1, ne_eqb _ 82 m.0.1, ne_eqb _ 119 m.1)
-    (rw (ne_eqb _ 87 n.0.0.1, ne_eqb _ 108 n.0.1, ne_eqb _ 100 n.1))
+    rw (ne_eqb _ 115 m.0.0.1, ne_eqb _ 114 m.0.1, ne_eqb _ 82 m.1, ne_eqb _ 119 n.0.0.1, ne_eqb _ 87 n.0.1, ne_eqb _ 108 n.1)
