@@ -4,11 +4,10 @@
  * are recorded and played again. Three functions more read lengths and packets
  * for a host.
  *
- * `rt staticlib capi` builds the functions of a card as
- * target/staticlib/libcapi.a, `rt staticlib capi_switch` those of a switch
- * (musgarento_switch_*) as target/staticlib/libcapi_switch.a,
- * `rt staticlib capi_log` those of logs (musgarento_play, musgarento_log_*) as
- * target/staticlib/libcapi_log.a, and `rt staticlib capi_query` those that read
+ * `bash tools/archives` builds the functions of a card as
+ * target/staticlib/libcapi.a, those of a switch (musgarento_switch_*) as
+ * target/staticlib/libcapi_switch.a, those of logs (musgarento_play,
+ * musgarento_log_*) as target/staticlib/libcapi_log.a, and those that read
  * lengths and packets (musgarento_config_lengths, musgarento_image_lengths,
  * musgarento_packet) as target/staticlib/libcapi_query.a.
  *
@@ -120,8 +119,7 @@ enum musgarento_refusal {
     MUSGARENTO_NOT_SOUND = 1,
     /* withdrawal while the pin is in force */
     MUSGARENTO_PIN_IN_FORCE = 7,
-    /* event number E or more; of a withdrawal, a vector at or above N (MSI:
-       2^Capable) */
+    /* event number E or more */
     MUSGARENTO_EVENT = 2,
     /* configuration width not 1, 2, 4, offset not a multiple of it, or above
        255 */
@@ -241,7 +239,7 @@ uint8_t musgarento_line(uint8_t *card, size_t card_len,
    waiting bit is cleared, and what waited is not sent later. was_set is 1 if
    the bit was set, else 0. The other mechanism's bit of that number stays, and
    nothing is sent. A log has no record of it (musgarento_log_record).
-   Refusals: 60, 1, 7, 2. */
+   Refusals: 60, 1, 7, and 2 for a vector at or above N (MSI: 2^Capable). */
 uint8_t musgarento_withdraw(uint8_t *card, size_t card_len,
                             const uint8_t *table, size_t table_len,
                             uint8_t *pending, size_t pending_len,

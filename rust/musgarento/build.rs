@@ -12,7 +12,7 @@ const LIBRARIES: [&str; 4] = ["capi", "capi_switch", "capi_log", "capi_query"];
 const VARIABLE: &str = "MUSGARENTO_LIB_DIR";
 
 /// The folder of the archives: the one named by the variable, or the place
-/// where `rt staticlib` writes them.
+/// where `tools/archives` writes them.
 fn folder() -> PathBuf {
     match env::var_os(VARIABLE) {
         Some(folder) => PathBuf::from(folder),
@@ -30,7 +30,7 @@ fn link(folder: &Path, library: &str) -> bool {
     println!("cargo:rustc-link-lib=static={library}");
     if !archive.is_file() {
         eprintln!("{} is missing.", archive.display());
-        eprintln!("`rt staticlib {library}`, in the top folder of the repository, builds it.");
+        eprintln!("`bash tools/archives`, in the top folder of the repository, builds it.");
         return false;
     }
     true

@@ -10,7 +10,7 @@ from machine import HERE, ROOM, Failure
 
 IMAGE_CONFIG = 38  # where an image has the configuration bytes
 IMAGE_PENDING = 294 + 16 * cards.EVENTS  # and the pending array
-EVENT_REFUSED = "refused with 2: event number E or more; of a withdrawal, a vector at or above N (MSI: 2^Capable)"
+EVENT_REFUSED = "refused with 2: event number E or more"
 PIN_REFUSED = "refused with 7: withdrawal while the pin is in force"
 
 

@@ -46,7 +46,7 @@ macro_rules! refusals {
 
 refusals! {
     NotSound = 1, "card not sound";
-    Event = 2, "event number E or more; of a withdrawal, a vector at or above N (MSI: 2^Capable)";
+    Event = 2, "event number E or more";
     ConfigAccess = 3, "configuration width not 1, 2, 4, offset not a multiple of it, or above 255";
     BarAccess = 4, "BAR above 5, width not 4 or 8, offset not a multiple, or outside table and pending array";
     MemorySpace = 5, "BAR access with Command bit 1 clear";

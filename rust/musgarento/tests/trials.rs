@@ -78,8 +78,7 @@ fn refused_records_and_waiting_vectors() {
     let (text, result) = played(&log[..]);
     assert_eq!(result, Ok(()));
     let end = "8. event 3: Merged\n    sends nothing\n\
-               9. event 4: refused with 2: event number E or more; \
-               of a withdrawal, a vector at or above N (MSI: 2^Capable)\n\
+               9. event 4: refused with 2: event number E or more\n\
                Records: 9\nWaiting MSI vectors: none\nWaiting MSI-X vectors: 3\n";
     assert!(text.ends_with(end));
 }
