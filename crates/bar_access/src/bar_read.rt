@@ -6,8 +6,8 @@ ghost use Rattle.card.specs.Outcomes.{after};
 ghost use Rattle.card.specs.Running.{Running};
 
 use crate::bounds::bad_bar;
-use card::outcome::{Outcome, accepted, refused};
-use card::sound::check;
+use card::outcome::{Outcome, accepted, refuse};
+use model::refusal::Refusal;
 use model::{Answer, Card, Profile};
 use registers::bar::bar_value;
 use vectors::mode::command_bit;
@@ -26,10 +26,10 @@ pub fn bar_read_core(
     ensures { after result table.now pending.now [] ≡ performed (world_of card table.now pending.now) (bar_read bar offset width) }
 {
     if bad_bar(k.shape, bar, offset, width) {
-        return refused(card, 4);
+        return refuse(card, Refusal::BarAccess);
     }
     if !command_bit(&card.function.config, 1) {
-        return refused(card, 5);
+        return refuse(card, Refusal::MemorySpace);
     }
     let value = bar_value(k.shape, table, pending, bar, offset, width as usize);
     accepted(card, Answer::Value(value), 0)
@@ -45,19 +45,8 @@ pub fn bar_read(
 ) -> Outcome
     ensures { after result table.now pending.now [] ≡ step (world_of card table.now pending.now) (bar_read bar offset width) }
 {
-    let checked = check(
-        &card.function.config,
-        &card.function.sizes,
-        card.function.events,
-        card.function.requester,
-        card.function.line,
-        card.function.waiting,
-        card.wire,
-        table,
-        pending,
-    );
-    if !checked.sound {
-        return refused(card, 1);
-    }
-    bar_read_core(card, checked.profile, table, pending, bar, offset, width)
+    let Some(found) = card::sound::check(&card, table, pending) else {
+        return refuse(card, Refusal::NotSound);
+    };
+    bar_read_core(card, found.profile, table, pending, bar, offset, width)
 }

@@ -9,8 +9,8 @@ ghost use Rattle.bar_access.specs.Entries.{table_written};
 
 use crate::bounds::bad_bar;
 use crate::entry::{entry_after, is_owed};
-use card::outcome::{Outcome, accepted, refused};
-use card::sound::check;
+use card::outcome::{Outcome, accepted, refuse};
+use model::refusal::Refusal;
 use model::{Answer, Card, Profile};
 use registers::bar::in_table;
 use registers::table::table_written;
@@ -18,7 +18,7 @@ use tlp::message_size;
 use vectors::entry::entry_vector;
 use vectors::message::{entry_message, put_vector_message};
 use vectors::mode::command_bit;
-use vectors::waiting::clear_pending;
+use vectors::waiting::change_pending;
 
 // The n low bytes of a value are written at place `at` of the table of a sound card. Only the vector of that entry can then
 // be open and wait: whether it sends is known before anything changes.
@@ -45,10 +45,10 @@ fn write_entry(
     }
     let m = entry_message(&entry);
     if out.len() < message_size(m.upper) {
-        return refused(card, 6);
+        return refuse(card, Refusal::Room);
     }
     table_written(table, at, n, value);
-    clear_pending(pending, v);
+    change_pending::<false>(pending, v);
     let count = put_vector_message(out, card.function.requester, m);
     accepted(card, Answer::Done, count)
 }
@@ -70,10 +70,10 @@ pub fn bar_write_core(
         ≡ performed (world_of card table.old pending.old) (bar_write bar offset width value out.old) }
 {
     if bad_bar(k.shape, bar, offset, width) {
-        return refused(card, 4);
+        return refuse(card, Refusal::BarAccess);
     }
     if !command_bit(&card.function.config, 1) {
-        return refused(card, 5);
+        return refuse(card, Refusal::MemorySpace);
     }
     if !in_table(k.shape, bar, offset) {
         return accepted(card, Answer::Done, 0);
@@ -95,23 +95,12 @@ pub fn bar_write(
     ensures { after result table.new pending.new out.new
         ≡ step (world_of card table.old pending.old) (bar_write bar offset width value out.old) }
 {
-    let checked = check(
-        &card.function.config,
-        &card.function.sizes,
-        card.function.events,
-        card.function.requester,
-        card.function.line,
-        card.function.waiting,
-        card.wire,
-        table,
-        pending,
-    );
-    if !checked.sound {
-        return refused(card, 1);
-    }
+    let Some(found) = card::sound::check(&card, table, pending) else {
+        return refuse(card, Refusal::NotSound);
+    };
     bar_write_core(
         card,
-        checked.profile,
+        found.profile,
         table,
         pending,
         bar,

@@ -21,10 +21,9 @@ use Rattle.call_log.specs.declared.Stage.TheVariants.{Header, Records, Again, Br
 use Rattle.call_log.specs.declared.End.{End}
 use Rattle.call_log.specs.declared.End.TheVariants.{More, Whole, Wrong}
 use Rattle.call_log.specs.declared.Scanned.{Scanned}
-use Rattle.call_log.specs.declared.Advanced.{Advanced}
 use Rattle.call_log.specs.Logs.{record_in, size_of}
 use Rattle.call_log.specs.Players.{between, player_of, is_playing, fits, fits_later, fits_record, with, complete, further, scan, counted}
-use Rattle.call_log.specs.Players.{advanced_of, stopped, scanned, resumed, advanced, due_record, played_record}
+use Rattle.call_log.specs.Players.{due_at, scanned_of, stopped, scanned, resumed, advanced, due_record, played_record}
 use Rattle.call_log.specs.Plays.{Performed, Played, world_by, onward, tried, idle, made, play_of}
 use Rattle.call_log.proofs.Reading.{scan-taken}
 use Rattle.call_log.proofs.ScanLaws.{later_fits, kind_stays}
@@ -92,13 +91,13 @@ scan-ends p (b ∷ l) =
 abbrev holding : Player → Player
 holding p = player_of Records p.taken p.part (counted p.number)
 
-module _ (p : Player) (l : List ℕ) (P : Advanced → Type 0)
+module _ (p : Player) (l : List ℕ) (P : Scanned → Type 0)
     (onStand : is_playing p.stage p.taken p.part ≡ false → P (stopped p))
-    (onAgain : is_playing Again p.taken p.part ≡ true → P (advanced_of p 0 0 true))
-    (onMore : P (advanced_of (scan p l).player (scan p l).taken 0 false))
-    (onWhole : is_playing Again (scan p l).player.taken (scan p l).player.part ≡ true → P (advanced_of (holding (scan p l).player) (scan p l).taken 0 true))
+    (onAgain : is_playing Again p.taken p.part ≡ true → P (scanned_of p 0 Whole))
+    (onMore : P (scanned_of (scan p l).player (scan p l).taken More))
+    (onWhole : is_playing Again (scan p l).player.taken (scan p l).player.part ≡ true → P (scanned_of (holding (scan p l).player) (scan p l).taken Whole))
     (onWrong : is_playing (scan p l).player.stage (scan p l).player.taken (scan p l).player.part ≡ false
-    → P (advanced_of (scan p l).player (scan p l).taken 30 false)) where
+    → P (scanned_of (scan p l).player (scan p l).taken Wrong)) where
   by_end : (e : End) → Ends (scan p l).player e → P (scanned (scan p l) e)
   unfolding scanned
   by_end More h = onMore
@@ -124,13 +123,13 @@ module _ {W : Type 0} (perform : W → Record → Performed W) where
     pub result : (play_of perform p w l).result ≡ map (perform w) (played_record p l)
     pub world : (play_of perform p w l).world ≡ world_by (play_of perform p w l).result w
 
-  due_result : (a : Advanced) (w : W) (b : Bool)
+  due_result : (a : Scanned) (w : W) (b : Bool)
       → (cond b (tried perform a.player w a.taken) (idle perform a w)).result ≡ map (perform w) (cond b (some (record_in a.player.part)) none)
   unfolding tried
   due_result a w true = refl
   due_result a w false = refl
 
-  due_world : (a : Advanced) (w : W) (b : Bool)
+  due_world : (a : Scanned) (w : W) (b : Bool)
       → let r : Played W = cond b (tried perform a.player w a.taken) (idle perform a w) in r.world ≡ world_by r.result w
   unfolding tried
   due_world a w true = refl
@@ -138,21 +137,21 @@ module _ {W : Type 0} (perform : W → Record → Performed W) where
 
   pub performs : (p : Player) (w : W) (l : List ℕ) → Performs p w l
   unfolding play_of made due_record
-  performs p w l = record { result = due_result (advanced p l) w (advanced p l).due; world = due_world (advanced p l) w (advanced p l).due }
+  performs p w l = record { result = due_result (advanced p l) w (due_at (advanced p l).end); world = due_world (advanced p l) w (due_at (advanced p l).end) }
 
   -- a call is refused with 30, or not at all; beside 30 no record was performed, and card and buffers are as they were
   pub play-refused : (p : Player) (w : W) (l : List ℕ)
       → let r : Played W = play_of perform p w l in (r.refusal ≡ 0) ⊎ ((r.refusal ≡ 30) × (r.world ≡ w) × (r.result ≡ none))
   unfolding play_of made tried
   play-refused p w l =
-      advance_elim p l (λ (a : Advanced). let r : Played W = made perform a w in (r.refusal ≡ 0) ⊎ ((r.refusal ≡ 30) × (r.world ≡ w) × (r.result ≡ none)))
+      advance_elim p l (λ (a : Scanned). let r : Played W = made perform a w in (r.refusal ≡ 0) ⊎ ((r.refusal ≡ 30) × (r.world ≡ w) × (r.result ≡ none)))
       (λ _. inr (refl, refl, refl)) (λ _. inl refl) (inl refl) (λ _. inl refl) (λ _. inr (refl, refl, refl))
 
   -- no more bytes are taken than are handed in
   pub play-taken : (p : Player) (w : W) (l : List ℕ) → (play_of perform p w l).taken ≤ length l
   unfolding play_of made tried
   play-taken p w l =
-      advance_elim p l (λ (a : Advanced). (made perform a w).taken ≤ length l)
+      advance_elim p l (λ (a : Scanned). (made perform a w).taken ≤ length l)
       (λ _. omega arith) (λ _. omega arith) (scan-taken p l) (λ _. scan-taken p l) (λ _. scan-taken p l)
 
   -- ---- 30 is for good
@@ -168,7 +167,7 @@ module _ {W : Type 0} (perform : W → Record → Performed W) where
   unfolding play_of made tried
   broken_stays p w l =
       advance_elim p l
-      (λ (a : Advanced). (made perform a w).refusal ≡ 30 → (v : W) (m : List ℕ)
+      (λ (a : Scanned). (made perform a w).refusal ≡ 30 → (v : W) (m : List ℕ)
       → let q : Player = (made perform a w).player in play_of perform q v m ≡ idle perform (stopped q) v)
       (λ e _ v m. stands p v m e) (λ _ h. absurd (omega (arith, h))) (λ h. absurd (omega (arith, h))) (λ _ h. absurd (omega (arith, h)))
       (λ e _ v m. stands (scan p l).player v m e)
@@ -187,14 +186,14 @@ module _ {W : Type 0} (perform : W → Record → Performed W) where
   unfolding play_of advanced due_record made resumed
   held-tries p e v m = (rw e, rw e)
 
-  abbrev Tries-after : W → Advanced → Type 0
+  abbrev Tries-after : W → Scanned → Type 0
   Tries-after w a = (x : Performed W) → (made perform a w).result ≡ some x → refusal_of x.answer ≡ 6 → Tries (made perform a w).player (due_record a)
 
   six_in : Option (Performed W) → ℕ
   six_in none = 0
   six_in (some x) = refusal_of x.answer
 
-  tried_again : (p : Player) (w : W) (taken : ℕ) → is_playing Again p.taken p.part ≡ true → Tries-after w (advanced_of p taken 0 true)
+  tried_again : (p : Player) (w : W) (taken : ℕ) → is_playing Again p.taken p.part ≡ true → Tries-after w (scanned_of p taken Whole)
   unfolding made due_record tried onward six_in
   tried_again p w taken e x is six =
       let a : Answer = (perform w (record_in p.part)).answer in
@@ -202,9 +201,11 @@ module _ {W : Type 0} (perform : W → Record → Performed W) where
       (ap (λ (b : Bool). cond b (held p) (between p.number)) (sym (eq-eqb (refusal_of a) 6 (ap six_in is ∙ six))))
       (held-tries p e)
 
-  none_due : (p : Player) (w : W) (taken refusal : ℕ) → Tries-after w (advanced_of p taken refusal false)
+  none_due : (p : Player) (w : W) (taken : ℕ) (end : End) → due_at end ≡ false → Tries-after w (scanned_of p taken end)
   unfolding made six_in
-  none_due p w taken refusal x is six = let e : ◌≡◌ {A = ℕ} 0 6 = ap six_in is ∙ six in absurd (omega (arith, e))
+  none_due p w taken Whole d x is six = absurd (false≢true (sym d))
+  none_due p w taken More d x is six = let e : ◌≡◌ {A = ℕ} 0 6 = ap six_in is ∙ six in absurd (omega (arith, e))
+  none_due p w taken Wrong d x is six = let e : ◌≡◌ {A = ℕ} 0 6 = ap six_in is ∙ six in absurd (omega (arith, e))
 
   -- "except 6: the record's bytes count as taken, and the next call only tries it again, taking 0 bytes", whatever it is given
   pub tries_again : (p : Player) (w : W) (l : List ℕ) (x : Performed W) → (play_of perform p w l).result ≡ some x → refusal_of x.answer ≡ 6
@@ -212,6 +213,6 @@ module _ {W : Type 0} (perform : W → Record → Performed W) where
       (played_record q m ≡ played_record p l) × (play_of perform q v m ≡ tried perform q v 0)
   unfolding play_of
   tries_again p w l =
-      advance_elim p l (Tries-after w) (λ _. none_due p w 0 30) (λ e. tried_again p w 0 e) (none_due (scan p l).player w (scan p l).taken 0)
+      advance_elim p l (Tries-after w) (λ _. none_due p w 0 Wrong refl) (λ e. tried_again p w 0 e) (none_due (scan p l).player w (scan p l).taken More refl)
       (λ c. tried_again (holding (scan p l).player) w (scan p l).taken c)
-      (λ _. none_due (scan p l).player w (scan p l).taken 30)
+      (λ _. none_due (scan p l).player w (scan p l).taken Wrong refl)

@@ -13,8 +13,9 @@ use Rattle.words.specs.Bytes.{byte, number, word16, word32, word64, bytes_of}
 use Rattle.words.proofs.ByteLaws.{number-bytes_of}
 use Rattle.call_log.specs.declared.Record.{Record}
 use Rattle.call_log.specs.declared.Record.TheVariants.{Event, Line, ConfigWrite, BarWrite, Reset}
+use Rattle.call_log.specs.declared.End.TheVariants.{Wrong}
 use Rattle.call_log.specs.Logs.{Fits, header, size_of, record_in, bytes_in}
-use Rattle.call_log.specs.Players.{fresh, between, broken, is_playing, fits_later, fits_record, fits, with, complete, scan, advanced_of, scanned, resumed, advanced}
+use Rattle.call_log.specs.Players.{fresh, between, broken, is_playing, fits_later, fits_record, fits, with, complete, scan, scanned_of, scanned, resumed, advanced}
 use Rattle.call_log.specs.Plays.{Performed, Played, tried, idle, made, play_of}
 use Rattle.call_log.proofs.WholeLaws.{TakesWhole, whole_event, whole_line, whole_config, whole_bar, whole_reset}
 
@@ -63,7 +64,7 @@ module _ {W : Type 0} (perform : W → Record → Performed W) (w : W) (n : ℕ)
 
   -- the bytes before it were taken, and nothing else was done
   abbrev refused_at : (number taken : ℕ) → Played W
-  refused_at number taken = idle perform (advanced_of (broken (between number)) taken 30 false) w
+  refused_at number taken = idle perform (scanned_of (broken (between number)) taken Wrong) w
 
   pub wrong-kind : (b : ℕ) → size_of b ≡ 0 → call (b ∷ l) ≡ refused_at n 0
   unfolding play_of advanced resumed scanned made is_playing scan fits fits_record

@@ -8,19 +8,22 @@ use lib.Dec.{ltb, eqb}
 use lib.ListN.{length, take, drop, take-append-drop}
 use lib.Seq.{get_or-take, length-take-le}
 use borrow.Author.Tests.{eqb-true, eqb-false, ltb-false, lt-ltb, le-ltb, ne_eqb, not-false}
+use Rattle.std.specs.Prelude.{Option, Some, None, slice_get}
+use Rattle.std.proofs.lemmas.Option.{none-some, same_Some, get_or_from_slice_get}
 use Rattle.words.specs.Lists.{first_of, count}
 use Rattle.words.specs.Bytes.{byte, number, word16, word32, word64}
 use Rattle.words.proofs.BoolLaws.{by_test, cond_elim, neither}
 use Rattle.words.proofs.ListLaws.{map-listed}
-use Rattle.call_log.specs.declared.Advanced.{Advanced}
+use Rattle.call_log.specs.declared.Scanned.{Scanned}
 use Rattle.call_log.specs.Logs.{size_of, record_in}
-use Rattle.call_log.specs.Players.{between, is_playing, fits_later, fits_record, fits, with, complete, scan, counted, scanned, resumed, advanced}
+use Rattle.call_log.specs.Players.{between, is_playing, fits_later, fits_record, fits, with, complete, scan, counted, due_at, scanned, resumed, advanced}
+use Rattle.call_log.specs.Kinds.{size_in}
 use Rattle.call_log.specs.Scanning.{whole_in}
-use Rattle.call_log.proofs.FormatLaws.{no_kind}
+use Rattle.call_log.proofs.FormatLaws.{no_kind, sized}
 
 -- the record at the start of the log is due, its bytes are taken, and it is counted after n others
-pub record DueWhole (a : Advanced) (n : ℕ) (l : List ℕ) (size : ℕ) : Type 0 where
-  pub due : a.due ≡ true
+pub record DueWhole (a : Scanned) (n : ℕ) (l : List ℕ) (size : ℕ) : Type 0 where
+  pub due : due_at a.end ≡ true
   pub taken : a.taken ≡ size
   pub held : record_in a.player.part ≡ record_in l
   pub number : a.player.number ≡ counted n
@@ -62,42 +65,59 @@ module _ (l : List ℕ) where
     room : size_of kind ≤ length l
     level : fits_later kind (byte l 1) ≡ true
 
-  whole_elim : (P : ℕ → Type 0) → P 0 → (Stands → P (size_of kind)) → P (whole_in l)
+  whole_elim : (P : Option ℕ → Type 0) → P None → (Stands → (size_of kind ≡ 0 → ⊥) → P (Some (size_of kind))) → P (whole_in l)
   unfolding whole_in
   whole_elim P none some =
       cond_elim P (ltb (length l) (size_of kind) || not (fits_later kind (byte l 1))) (λ _. none)
       (λ t.
       let u = neither (ltb (length l) (size_of kind)) (not (fits_later kind (byte l 1))) t in
-      some (record { room = ltb-false (length l) (size_of kind) u.0; level = not-false (fits_later kind (byte l 1)) u.1 }))
+      cond_elim P (eqb (size_of kind) 0) (λ _. none)
+      (λ z. some (record { room = ltb-false (length l) (size_of kind) u.0; level = not-false (fits_later kind (byte l 1)) u.1 }) (eqb-false (size_of kind) 0 z)))
 
   -- its kind and all of its bytes can be read
-  pub whole_room : (whole_in l ≡ 0 → ⊥) → (0 < length l) × (size_of kind ≤ length l)
-  whole_room =
-      whole_elim (λ (s : ℕ). (s ≡ 0 → ⊥) → (0 < length l) × (size_of kind ≤ length l)) (λ z. absurd (z refl))
-      (λ s z. let r = s.room in (omega (arith, r, z), r))
+  pub whole_room : (size : ℕ) → whole_in l ≡ Some size → (0 < length l) × (size_of kind ≤ length l)
+  whole_room size =
+      whole_elim (λ (s : Option ℕ). s ≡ Some size → (0 < length l) × (size_of kind ≤ length l)) (λ e. absurd (none-some size e))
+      (λ s z _. let r = s.room in (omega (arith, r, z), r))
 
   -- ---- one law for each way out of the test
 
-  pub whole_short : (size : ℕ) → size ≡ size_of kind → length l < size → 0 ≡ whole_in l
+  pub whole_no_kind : size_in kind ≡ None → None ≡ whole_in l
   unfolding whole_in
-  whole_short size e h = rw (lt-ltb (length l) (size_of kind) (omega (arith, e, h)))
-
-  pub whole_is : (size : ℕ) → size ≡ size_of kind → size ≤ length l → fits_later kind (byte l 1) ≡ true → size ≡ whole_in l
-  unfolding whole_in
-  whole_is size e h f = rw (le-ltb (length l) (size_of kind) (omega (arith, e, h)), f) e
-
-  pub whole_wrong : fits_later kind (byte l 1) ≡ false → 0 ≡ whole_in l
-  unfolding whole_in
-  whole_wrong f = rw f (by-second (ltb (length l) (size_of kind)) (size_of kind))
+  whole_no_kind e = rw e (by_either (ltb (length l) (size_of kind) || not (fits_later kind (byte l 1))))
     where
-      by-second : (a : Bool) (x : ℕ) → 0 ≡ cond (a || true) 0 x
+      by_either : (a : Bool) → None ≡ cond {A = Option ℕ} a None None
+      by_either true = refl
+      by_either false = refl
+
+  pub whole_short : (size : ℕ) → size_in kind ≡ Some size → length l < size → None ≡ whole_in l
+  unfolding whole_in
+  whole_short size e h = rw (lt-ltb (length l) (size_of kind) (omega (arith, (sized kind size e).0, h)))
+
+  pub whole_is : (size : ℕ) → size_in kind ≡ Some size → size ≤ length l → fits_later kind (byte l 1) ≡ true → Some size ≡ whole_in l
+  unfolding whole_in
+  whole_is size e h f = rw (le-ltb (length l) (size_of kind) (omega (arith, (sized kind size e).0, h)), f) (sym e)
+
+  pub whole_wrong : fits_later kind (byte l 1) ≡ false → None ≡ whole_in l
+  unfolding whole_in
+  whole_wrong f = rw f (by-second (ltb (length l) (size_of kind)) (size_in kind))
+    where
+      by-second : (a : Bool) (x : Option ℕ) → None ≡ cond (a || true) None x
       by-second true x = refl
       by-second false x = refl
 
-pub whole_empty : (l : List ℕ) → length l ≡ 0 → 0 ≡ whole_in l
+pub whole_empty : (l : List ℕ) → None ≡ slice_get l 0 → None ≡ whole_in l
 unfolding whole_in size_of first_of fits_later
 whole_empty [] e = refl
-whole_empty (b ∷ l) e = absurd (omega (arith, e))
+whole_empty (b ∷ l) e = absurd (none-some b e)
+
+-- the first byte of a log, and its size
+module _ (l : List ℕ) (k : ℕ) (first : Some k ≡ slice_get l 0) where
+  pub first_byte : byte l 0 ≡ k
+  first_byte = get_or_from_slice_get l 0 k 0 (sym first)
+
+  pub first_size : (size : Option ℕ) → size ≡ size_in k → size_in (byte l 0) ≡ size
+  first_size size e = ap size_in first_byte ∙ sym e
 
 -- a byte that is no level
 pub other_level : (k b : ℕ) → (k ≡ 2 → ⊥) → fits_later k b ≡ true
@@ -112,12 +132,12 @@ module _ (n : ℕ) (l : List ℕ) where
       ∙ take-append-drop k l
 
   -- a record of a kind
-  at_kind : (kind k : ℕ) → byte l 0 ≡ kind → suc k ≤ length l
-      → TakesWhole n (kind ∷ map (byte l) (count 1 k) ++ drop (suc k) l) (suc k) → TakesWhole n l (suc k)
+  at_kind : (b k : ℕ) → byte l 0 ≡ b → suc k ≤ length l
+      → TakesWhole n (b ∷ map (byte l) (count 1 k) ++ drop (suc k) l) (suc k) → TakesWhole n l (suc k)
   unfolding count
-  at_kind kind k e h t =
+  at_kind b k e h t =
       subst (λ (x : List ℕ). TakesWhole n x (suc k))
-      (ap (λ (b : ℕ). b ∷ map (byte l) (count 1 k) ++ drop (suc k) l) (sym e) ∙ spread (suc k) h) t
+      (ap (λ (x : ℕ). x ∷ map (byte l) (count 1 k) ++ drop (suc k) l) (sym e) ∙ spread (suc k) h) t
 
   by_kind : size_of (kind l) ≤ length l → fits_later (kind l) (byte l 1) ≡ true → (size_of (kind l) ≡ 0 → ⊥) → TakesWhole n l (size_of (kind l))
   unfolding size_of first_of fits_later count
@@ -153,6 +173,7 @@ module _ (n : ℕ) (l : List ℕ) where
       reset e = sized 5 e (λ r. at_kind 5 0 e r (whole_reset n (drop 1 l)))
 
   -- A record that stands whole at the start of a log is what a player between two records takes of it
-  pub takes_whole : (whole_in l ≡ 0 → ⊥) → TakesWhole n l (whole_in l)
-  takes_whole =
-      whole_elim l (λ (s : ℕ). (s ≡ 0 → ⊥) → TakesWhole n l s) (λ z. absurd (z refl)) (λ s. by_kind s.room s.level)
+  pub takes_whole : (size : ℕ) → whole_in l ≡ Some size → TakesWhole n l size
+  takes_whole size =
+      whole_elim l (λ (s : Option ℕ). s ≡ Some size → TakesWhole n l size) (λ e. absurd (none-some size e))
+      (λ s z e. subst (TakesWhole n l) (same_Some (size_of (kind l)) size e) (by_kind s.room s.level z))

@@ -1,4 +1,6 @@
 pub mod Logs
+pub mod Kinds
+pub mod Stages
 pub mod Players
 pub mod Scanning
 pub mod Plays

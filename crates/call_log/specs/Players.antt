@@ -9,7 +9,6 @@ use Rattle.call_log.specs.declared.Player.{Player}
 use Rattle.call_log.specs.declared.End.{End}
 use Rattle.call_log.specs.declared.End.TheVariants.{More, Whole, Wrong}
 use Rattle.call_log.specs.declared.Scanned.{Scanned}
-use Rattle.call_log.specs.declared.Advanced.{Advanced}
 use Rattle.call_log.specs.Logs.{header, size_of, record_in}
 
 abbrev pub player_of : Stage → (taken : ℕ) → (part : List ℕ) → (number : ℕ) → Player
@@ -97,32 +96,43 @@ scan p (b ∷ l) =
 unfoldable pub counted : (number : ℕ) → ℕ
 counted n = cond (ltb (suc n) (2 ^ 64)) (suc n) n
 
-abbrev pub advanced_of : Player → (taken refusal : ℕ) → (due : Bool) → Advanced
-advanced_of p taken refusal due = record { player = p; taken = taken; refusal = refusal; due = due }
+-- the refusal of a call whose bytes end there, and whether its record is due
+abbrev pub refusal_at : End → ℕ
+refusal_at More = 0
+refusal_at Whole = 0
+refusal_at Wrong = 30
+
+abbrev pub due_at : End → Bool
+due_at More = false
+due_at Whole = true
+due_at Wrong = false
+
+abbrev pub scanned_of : Player → (taken : ℕ) → End → Scanned
+scanned_of p taken end = record { player = p; taken = taken; end = end }
 
 -- after a wrong byte, and for a player that no log leaves behind: 30, and nothing changes
-abbrev pub stopped : Player → Advanced
-stopped p = advanced_of p 0 30 false
+abbrev pub stopped : Player → Scanned
+stopped p = scanned_of p 0 Wrong
 
 -- a complete record is due
-unfoldable pub scanned : Scanned → End → Advanced
-scanned s More = advanced_of s.player s.taken 0 false
-scanned s Whole = advanced_of (player_of Records s.player.taken s.player.part (counted s.player.number)) s.taken 0 true
-scanned s Wrong = advanced_of s.player s.taken 30 false
+unfoldable pub scanned : Scanned → End → Scanned
+scanned s More = scanned_of s.player s.taken More
+scanned s Whole = scanned_of (player_of Records s.player.taken s.player.part (counted s.player.number)) s.taken Whole
+scanned s Wrong = scanned_of s.player s.taken Wrong
 
 -- "the next call only tries it again, taking 0 bytes"
-unfoldable pub resumed : Stage → Player → (bytes : List ℕ) → Advanced
+unfoldable pub resumed : Stage → Player → (bytes : List ℕ) → Scanned
 resumed Header p l = scanned (scan p l) (scan p l).end
 resumed Records p l = scanned (scan p l) (scan p l).end
-resumed Again p l = advanced_of p 0 0 true
+resumed Again p l = scanned_of p 0 Whole
 resumed Broken p l = stopped p
 
-unfoldable pub advanced : Player → (bytes : List ℕ) → Advanced
+unfoldable pub advanced : Player → (bytes : List ℕ) → Scanned
 advanced p l = cond (is_playing p.stage p.taken p.part) (resumed p.stage p l) (stopped p)
 
 -- the record that is due, if one is
-unfoldable pub due_record : Advanced → Option Record
-due_record a = cond a.due (some (record_in a.player.part)) none
+unfoldable pub due_record : Scanned → Option Record
+due_record a = cond (due_at a.end) (some (record_in a.player.part)) none
 
 -- the record that a call of the player performs
 abbrev pub played_record : Player → (bytes : List ℕ) → Option Record

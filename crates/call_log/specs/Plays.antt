@@ -6,9 +6,9 @@ use Rattle.model.specs.Answers.{refusal_of}
 use Rattle.call_log.specs.declared.Record.{Record}
 use Rattle.call_log.specs.declared.Stage.TheVariants.{Again}
 use Rattle.call_log.specs.declared.Player.{Player}
-use Rattle.call_log.specs.declared.Advanced.{Advanced}
+use Rattle.call_log.specs.declared.Scanned.{Scanned}
 use Rattle.call_log.specs.Logs.{record_in}
-use Rattle.call_log.specs.Players.{player_of, between, advanced}
+use Rattle.call_log.specs.Players.{player_of, between, refusal_at, due_at, advanced}
 
 -- what a record gave: card and buffers after it, the answer, and the packets
 pub record Performed (W : Type 0) : Type 0 where
@@ -46,11 +46,11 @@ module _ {W : Type 0} (perform : W → Record → Performed W) where
       record { player = onward p r.answer; world = r.world; taken = taken; refusal = 0; result = some r }
 
   -- no record is due
-  abbrev pub idle : Advanced → W → Played W
-  idle a w = record { player = a.player; world = w; taken = a.taken; refusal = a.refusal; result = none }
+  abbrev pub idle : Scanned → W → Played W
+  idle a w = record { player = a.player; world = w; taken = a.taken; refusal = refusal_at a.end; result = none }
 
-  unfoldable pub made : Advanced → W → Played W
-  made a w = cond a.due (tried a.player w a.taken) (idle a w)
+  unfoldable pub made : Scanned → W → Played W
+  made a w = cond (due_at a.end) (tried a.player w a.taken) (idle a w)
 
   unfoldable pub play_of : Player → W → (bytes : List ℕ) → Played W
   play_of p w l = made (advanced p l) w

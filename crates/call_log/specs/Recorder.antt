@@ -1,5 +1,5 @@
 -- The recorder of request [1]: the log of calls that were made, with their answers. Assumes nothing.
-use Rattle.std.specs.Prelude.{Bool, false, cond, not, ◌&&◌, List, [], ◌∷◌, ◌++◌, ℕ, ltb, eqb, length}
+use Rattle.std.specs.Prelude.{Bool, false, cond, not, ◌&&◌, List, [], ◌∷◌, ◌++◌, ℕ, ltb, eqb, length, Result, Ok, Err}
 use Rattle.std.proofs.Math.Option.{Option, none, some}
 use Rattle.words.specs.Writers.{over}
 use Rattle.model.specs.declared.Answer.{Answer}
@@ -8,7 +8,7 @@ use Rattle.model.specs.Answers.{refusal_of, is_accepted}
 use Rattle.model.specs.World.{World}
 use Rattle.model.specs.Calls.{Call, is_withdrawal, step}
 use Rattle.call_log.specs.declared.Record.{Record}
-use Rattle.call_log.specs.declared.recorder.Logged.{Logged}
+use Rattle.call_log.specs.declared.recorder.NoRoom.{NoRoom}
 use Rattle.call_log.specs.Logs.{header, bytes_in, record_of}
 use Rattle.call_log.specs.Players.{counted}
 use Rattle.call_log.specs.Plays.{Performed}
@@ -30,8 +30,9 @@ pub record Appended : Type 0 where
   pub output : List ℕ
 
 -- what the code hands back beside the output
-abbrev pub appended_to : Logged → (output : List ℕ) → Appended
-appended_to r output = record { answer = r.answer; count = r.count; output = output }
+abbrev pub appended_to : Result ℕ NoRoom → (output : List ℕ) → Appended
+appended_to (Ok count) output = record { answer = Done; count = count; output = output }
+appended_to (Err e) output = record { answer = Refused 6; count = 0; output = output }
 
 -- too little room is 6, and nothing is written
 unfoldable pub appended : (bytes out : List ℕ) → Appended

@@ -1,24 +1,20 @@
 // What a call of a player takes, before it meets the card, and how the player goes on after it.
-ghost use Rattle.std.specs.Prelude.{◌≡◌, true};
-ghost use Rattle.call_log.specs.declared.Stage.TheVariants.{Records};
+ghost use Rattle.std.specs.Prelude.{◌≡◌};
 ghost use Rattle.call_log.specs.Logs.{record_in};
-ghost use Rattle.call_log.specs.Players.{player_of, between, is_playing, counted, advanced_of, stopped, scanned, advanced};
+ghost use Rattle.call_log.specs.Players.{between, is_playing, counted, stopped, scanned, advanced};
 ghost use Rattle.call_log.specs.Plays.{onward};
 
 use crate::answer::lacks_room;
 use crate::format::{record_in, size_of};
 use crate::scan::{fits_later, scan_header, scan_record};
-use crate::{Advanced, End, Player, Record, Scanned, Stage};
+use crate::{End, Player, Record, Scanned, Stage};
 use model::Answer;
 
 // One more record is complete; past 2^64 - 1 the number stays there.
 pub fn counted(number: u64) -> u64
     ensures { result ≡ counted number }
 {
-    if number == 0xffffffffffffffff {
-        return number;
-    }
-    number + 1
+    number.saturating_add(1)
 }
 
 // Between two records.
@@ -39,106 +35,74 @@ fn is_playing(player: Player) -> bool
 {
     let taken = player.taken;
     let kind = player.part[0];
-    let size = size_of(kind);
-    let fits = fits_later(kind, player.part[1]);
-    let stage = player.stage;
-    match stage {
+    match player.stage {
         Stage::Header => taken < 5,
-        Stage::Records => taken == 0 || taken < size,
-        Stage::Again => (0 < taken) & (taken == size) & fits,
+        Stage::Records => taken == 0 || size_of(kind).is_some_and(|size| taken < size),
+        Stage::Again => size_of(kind) == Some(taken) && fits_later(kind, player.part[1]),
         Stage::Broken => false,
     }
 }
 
-// The player goes on no more: 30, and nothing changes.
-fn stopped(player: Player) -> Advanced
+// The player goes on no more: it takes nothing, and nothing changes.
+fn stopped(player: Player) -> Scanned
     ensures { result ≡ stopped player }
 {
-    Advanced {
+    Scanned {
         player,
         taken: 0,
-        refusal: 30,
-        due: false,
+        end: End::Wrong,
     }
 }
 
-// A whole record is due.
-fn due(player: Player, taken: usize) -> Advanced
-    ensures { result ≡ advanced_of (player_of Records player.taken player.part (counted player.number)) taken 0 true }
-{
-    let part = player.part;
-    let held = Player {
-        stage: Stage::Records,
-        taken: player.taken,
-        part,
-        number: counted(player.number),
-    };
-    Advanced {
-        player: held,
-        taken,
-        refusal: 0,
-        due: true,
-    }
-}
-
-// After the bytes of a call.
-fn after_scan(s: Scanned) -> Advanced
+// After the bytes of a call: a whole record is counted.
+fn after_scan(s: Scanned) -> Scanned
     ensures { result ≡ scanned s s.end }
 {
-    let player = s.player;
-    let end = s.end;
-    match end {
-        End::More => Advanced {
-            player,
-            taken: s.taken,
-            refusal: 0,
-            due: false,
+    match s.end {
+        End::More => s,
+        End::Whole => Scanned {
+            player: Player {
+                stage: Stage::Records,
+                number: counted(s.player.number),
+                ..s.player
+            },
+            ..s
         },
-        End::Whole => due(player, s.taken),
-        End::Wrong => Advanced {
-            player,
-            taken: s.taken,
-            refusal: 30,
-            due: false,
-        },
+        End::Wrong => s,
     }
 }
 
 // Takes bytes of a log up to the end of the first complete record, which is then due, or none if a record is to be tried again.
-pub fn advance(player: Player, log: &[u8]) -> Advanced
+pub fn advance(player: Player, log: &[u8]) -> Scanned
     ensures { result ≡ advanced player log.now }
 {
     if !is_playing(player) {
         return stopped(player);
     }
-    let part = player.part;
-    let stage = player.stage;
-    match stage {
-        Stage::Header => after_scan(scan_header(part, player.taken, player.number, log)),
-        Stage::Records => after_scan(scan_record(part, player.taken, player.number, log, 0)),
-        Stage::Again => Advanced {
+    match player.stage {
+        Stage::Header => after_scan(scan_header(player, log)),
+        Stage::Records => after_scan(scan_record(player, log, 0)),
+        Stage::Again => Scanned {
             player,
             taken: 0,
-            refusal: 0,
-            due: true,
+            end: End::Whole,
         },
         Stage::Broken => stopped(player),
     }
 }
 
-// The same for a player between two records, of which its number is all.
-pub fn advance_between(number: u64, log: &[u8]) -> Advanced
+// The same for a player between two records, of which its number is all. It stands alone for speed: `advance` with a second caller is not compiled into the first.
+pub fn advance_between(number: u64, log: &[u8]) -> Scanned
     ensures { result ≡ advanced (between number) log.now }
 {
-    after_scan(scan_record([0; 15], 0, number, log, 0))
+    after_scan(scan_record(between(number), log, 0))
 }
 
 // The record that a player holds.
 pub fn held_record(player: Player) -> Record
     ensures { result ≡ record_in player.part }
 {
-    let part = player.part;
-    record_in(&part)
+    record_in(&player.part)
 }
 
 // After the record's call: after 6 it is to be tried again, else the next record follows.
@@ -148,11 +112,8 @@ pub fn onward(player: Player, answer: Answer) -> Player
     if !lacks_room(answer) {
         return between(player.number);
     }
-    let part = player.part;
     Player {
         stage: Stage::Again,
-        taken: player.taken,
-        part,
-        number: player.number,
+        ..player
     }
 }

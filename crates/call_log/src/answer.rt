@@ -5,6 +5,7 @@ ghost use Rattle.call_log.specs.Plays.{lacks_room};
 use model::Answer;
 
 // Whether it is 6: the output had too little room, and nothing was done.
+// Kept as `let .. else`: docs/DECISIONS.md has it among the forms that document 01 names.
 pub fn lacks_room(answer: Answer) -> bool
     ensures { result ≡ lacks_room answer }
 {

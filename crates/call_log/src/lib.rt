@@ -4,7 +4,9 @@
 pub mod advance; // what a call of a player takes
 pub mod answer; // what a record's call was answered with
 pub mod format; // the bytes of a record
+pub mod kind; // the kinds of records
 pub mod recorder; // records appended
+pub mod stages; // a player's stage as a byte
 pub mod scan; // bytes taken one by one
 pub mod whole; // a record that stands whole in the bytes
 
@@ -28,7 +30,7 @@ pub enum Record {
 }
 
 // What a player reads next: mark and version; records; nothing, since its last record is to be tried again; nothing any more.
-#[derive(Clone, Copy)]
+#[derive(Clone, Copy, Debug, PartialEq, Eq)]
 pub enum Stage {
     Header,
     Records,
@@ -37,6 +39,7 @@ pub enum Stage {
 }
 
 // A player: how many bytes of the header or of a record it has taken, those of the record (the rest 0), and how many records were complete.
+// An array with a length beside it, since memory is fixed, and C's 25 bytes of a player hold any pair of them.
 #[derive(Clone, Copy)]
 pub struct Player {
     pub stage: Stage,
@@ -45,8 +48,9 @@ pub struct Player {
     pub number: u64,
 }
 
-// Where the bytes of a call end: before the end of a record; with a whole record; at a wrong byte.
-#[derive(Clone, Copy)]
+// Where the bytes of a call end: before the end of a record; with a whole record, which is then due; at a wrong byte, or at
+// none since the player goes on no more, which are refused with 30.
+#[derive(Clone, Copy, Debug, PartialEq, Eq)]
 pub enum End {
     More,
     Whole,
@@ -59,13 +63,4 @@ pub struct Scanned {
     pub player: Player,
     pub taken: usize,
     pub end: End,
-}
-
-// A call before it meets the card: the player, how many bytes it took, 0 or 30, and whether the record that the player holds is due.
-#[derive(Clone, Copy)]
-pub struct Advanced {
-    pub player: Player,
-    pub taken: usize,
-    pub refusal: u8,
-    pub due: bool,
 }

@@ -3,25 +3,23 @@ ghost use Rattle.std.specs.Prelude.{◌≡◌};
 ghost use Rattle.call_log.specs.Scanning.{whole_in};
 
 use crate::format::size_of;
+use crate::kind::Kind;
 use crate::scan::fits_later;
 
-// How many bytes the record has that stands whole at the start of a log; 0 if none does.
-pub fn whole_in(log: &[u8]) -> usize
+// How many bytes the record has that stands whole at the start of a log, if one does.
+pub fn whole_in(log: &[u8]) -> Option<usize>
     ensures { result ≡ whole_in log.now }
 {
-    if log.len() == 0 {
-        return 0;
-    }
-    let kind = log[0];
-    let size = size_of(kind);
+    let kind = *log.first()?;
+    let size = size_of(kind)?;
     if log.len() < size {
-        return 0;
+        return None;
     }
-    if kind != 2 {
-        return size;
+    if kind != Kind::Line as u8 {
+        return Some(size);
     }
     if fits_later(kind, log[1]) {
-        return size;
+        return Some(size);
     }
-    0
+    None
 }

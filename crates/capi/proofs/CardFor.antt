@@ -61,9 +61,9 @@ read_call l c e =
     let b = passed 1 [] refl a.1 in
     record { size = is-length l 289 a.0; flags = ltb-true (byte l 0) 4 (not-false (ltb (byte l 0) 4) b.0) }
 
--- where the code's number n is 0
-pub readable : (l : List ℕ) (n : ℕ) → ((c : Call) → n ≡ unread l (call c)) → n ≡ 0 → Readable l
-readable l n e z = read_call l (reset []) (sym (e (reset [])) ∙ z)
+-- where the code's test passes
+pub is-readable : (l : List ℕ) → ((c : Call) → 0 ≡ unread l (call c)) → Readable l
+is-readable l e = read_call l (reset []) (sym (e (reset [])))
 
 -- of every operation
 pub read_lengths : (l : List ℕ) (o : Operation) → unread l o ≡ 0 → RightLengths l o

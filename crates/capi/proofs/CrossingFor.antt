@@ -12,6 +12,9 @@ use Rattle.words.proofs.BoolLaws.{by_test, cond_elim, row-passes, row-refuses, n
 use Rattle.model.specs.declared.Card.{Card}
 use Rattle.model.specs.Answers.{refusal_of, value_of, event_code}
 use Rattle.model.specs.World.{world_of, card_of}
+use Rattle.model.specs.declared.refusal.Refusal.{Refusal}
+use Rattle.model.specs.Refusals.{number_of}
+use Rattle.model.proofs.RefusalLaws.{not_zero}
 use Rattle.model.specs.Image.{card_bytes, card_in}
 use Rattle.model.specs.Calls as Calls
 use Rattle.model.specs.Calls.{Call, Operation, call, restore, operate, step, restore_of, lent_output}
@@ -29,6 +32,11 @@ use Rattle.capi.proofs.CardFor.{Readable}
 pub stopped : (card t p : List ℕ) (o : Operation) (n : ℕ) → n ≡ unread card o → (n ≡ 0 → ⊥) → handed n card t p (lent_output o) 0 0 0 ≡ crossed card t p o
 unfolding crossed
 stopped card t p o n e h = rw (← e, ne_eqb n 0 h)
+
+-- by the code's test, whose number is n
+pub not_read : (card t p : List ℕ) (c : Call) (why : Refusal) → ((c' : Call) → number_of why ≡ unread card (call c')) → (n : ℕ) → n ≡ number_of why
+    → handed n card t p (lent_output (call c)) 0 0 0 ≡ crossed card t p (call c)
+not_read card t p c why u n m = stopped card t p (call c) n (m ∙ u c) (λ z. not_zero why (sym m ∙ z))
 
 -- or read: the operation on the card that the bytes hold
 pub read_through : (card t p : List ℕ) (o : Operation) → unread card o ≡ 0 → crossed card t p o ≡ back card o (operate (world_of (card_in card) t p) o)

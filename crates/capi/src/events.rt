@@ -3,7 +3,7 @@ ghost use Rattle.std.specs.Prelude.{◌≡◌, not, eqb};
 ghost use Rattle.model.specs.Calls.{call, event, line};
 ghost use Rattle.capi.specs.Crossing.{handed, crossed};
 
-use crate::bytes::{hand_back, unread};
+use crate::bytes::{hand_back, readable};
 use crate::narrow::narrow16;
 use image::get::card_of;
 
@@ -21,11 +21,10 @@ pub fn musgarento_event(
 {
     *answer = 0;
     *count = 0;
-    let refusal = unread(card);
-    if refusal != 0 {
-        return refusal;
-    }
-    let held = card_of(card);
+    let held = match readable(card) {
+        Ok(()) => card_of(card),
+        Err(why) => return why.number(),
+    };
     let outcome = interrupt::event::event(held, table, pending, narrow16(number), out);
     *count = outcome.count;
     let numbers = hand_back(card, outcome);
@@ -46,11 +45,10 @@ pub fn musgarento_line(
         ≡ crossed card.old table.now pending.now (call (line (not (eqb level 0)) out.old)) }
 {
     *count = 0;
-    let refusal = unread(card);
-    if refusal != 0 {
-        return refusal;
-    }
-    let held = card_of(card);
+    let held = match readable(card) {
+        Ok(()) => card_of(card),
+        Err(why) => return why.number(),
+    };
     let outcome = interrupt::line::line(held, table, pending, level != 0, out);
     *count = outcome.count;
     let numbers = hand_back(card, outcome);

@@ -3,9 +3,10 @@ ghost use Rattle.std.specs.Prelude.{◌≡◌, []};
 ghost use Rattle.model.specs.Calls.{call, save, restore};
 ghost use Rattle.capi.specs.Crossing.{handed, crossed};
 
-use crate::bytes::{hand_back, numbers_of, unread};
+use crate::bytes::{hand_back, numbers_of, readable};
 use image::format::Image;
 use image::get::card_of;
+use model::refusal::Refusal;
 
 pub fn musgarento_save(
     card: &[u8],
@@ -18,11 +19,10 @@ pub fn musgarento_save(
         ≡ crossed card.now table.now pending.now (call (save out.old)) }
 {
     *count = 0;
-    let refusal = unread(card);
-    if refusal != 0 {
-        return refusal;
-    }
-    let held = card_of(card);
+    let held = match readable(card) {
+        Ok(()) => card_of(card),
+        Err(why) => return why.number(),
+    };
     let outcome = snapshot::save::save(held, table, pending, out);
     *count = outcome.count;
     let answer = outcome.answer;
@@ -36,7 +36,7 @@ pub fn musgarento_restore(card: &mut [u8], table: &mut [u8], pending: &mut [u8],
         ≡ crossed card.old table.old pending.old (restore image.now) }
 {
     if card.len() != Image::CARD {
-        return 60;
+        return Refusal::Lengths.number();
     }
     let held = card_of(card);
     let outcome = snapshot::restore::restore(held, image, table, pending);

@@ -3,7 +3,6 @@
 
 pub mod bytes; // a card as bytes, for capi_log too
 pub mod events;
-mod given;
 pub mod hosts;
 pub mod images;
 pub mod narrow; // wide numbers, for capi_log too

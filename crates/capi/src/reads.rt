@@ -3,7 +3,7 @@ ghost use Rattle.std.specs.Prelude.{◌≡◌, []};
 ghost use Rattle.model.specs.Calls.{call, config_read, bar_read};
 ghost use Rattle.capi.specs.Crossing.{handed, crossed};
 
-use crate::bytes::{numbers_of, unread};
+use crate::bytes::{numbers_of, readable};
 use crate::narrow::{narrow8, narrow16, narrow32};
 use image::get::card_of;
 
@@ -19,11 +19,10 @@ pub fn musgarento_config_read(
         ≡ crossed card.now table.now pending.now (call (config_read offset width)) }
 {
     *value = 0;
-    let refusal = unread(card);
-    if refusal != 0 {
-        return refusal;
-    }
-    let held = card_of(card);
+    let held = match readable(card) {
+        Ok(()) => card_of(card),
+        Err(why) => return why.number(),
+    };
     let outcome = config_access::config_read::config_read(
         held,
         table,
@@ -50,11 +49,10 @@ pub fn musgarento_bar_read(
         ≡ crossed card.now table.now pending.now (call (bar_read bar offset width)) }
 {
     *value = 0;
-    let refusal = unread(card);
-    if refusal != 0 {
-        return refusal;
-    }
-    let held = card_of(card);
+    let held = match readable(card) {
+        Ok(()) => card_of(card),
+        Err(why) => return why.number(),
+    };
     let outcome = bar_access::bar_read::bar_read(
         held,
         table,

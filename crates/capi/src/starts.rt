@@ -3,11 +3,11 @@ ghost use Rattle.std.specs.Prelude.{◌≡◌, []};
 ghost use Rattle.model.specs.Calls.{call, start, reset};
 ghost use Rattle.capi.specs.Crossing.{handed, crossed};
 
-use crate::bytes::{hand_back, hand_out, unread};
-use crate::given::{config_of, sizes_of};
+use crate::bytes::{hand_back, hand_out, readable};
 use crate::narrow::narrow16;
 use image::format::Image;
 use image::get::card_of;
+use model::refusal::Refusal;
 
 // A start reads no byte of the card.
 pub fn musgarento_start(
@@ -23,19 +23,17 @@ pub fn musgarento_start(
         ≡ crossed card.old table.old pending.old (start config.now sizes.now events requester) }
 {
     if card.len() != Image::CARD {
-        return 60;
+        return Refusal::Lengths.number();
     }
-    if config.len() != 256 {
-        return 60;
-    }
-    if sizes.len() != 6 {
-        return 60;
-    }
-    let bytes = config_of(config);
-    let words = sizes_of(sizes);
+    let Some(bytes) = config.as_array::<256>() else {
+        return Refusal::Lengths.number();
+    };
+    let Some(words) = sizes.as_array::<6>() else {
+        return Refusal::Lengths.number();
+    };
     let outcome = lifecycle::start::start(
-        bytes,
-        words,
+        *bytes,
+        *words,
         narrow16(events),
         narrow16(requester),
         table,
@@ -56,11 +54,10 @@ pub fn musgarento_reset(
         ≡ crossed card.old table.old pending.old (call (reset out.old)) }
 {
     *count = 0;
-    let refusal = unread(card);
-    if refusal != 0 {
-        return refusal;
-    }
-    let held = card_of(card);
+    let held = match readable(card) {
+        Ok(()) => card_of(card),
+        Err(why) => return why.number(),
+    };
     let outcome = lifecycle::reset::reset(held, table, pending, out);
     *count = outcome.count;
     let numbers = hand_back(card, outcome);

@@ -3,7 +3,7 @@ ghost use Rattle.std.specs.Prelude.{◌≡◌, []};
 ghost use Rattle.model.specs.Calls.{call, withdraw};
 ghost use Rattle.capi.specs.Crossing.{handed, crossed};
 
-use crate::bytes::{hand_back, unread};
+use crate::bytes::{hand_back, readable};
 use crate::narrow::narrow16;
 use image::get::card_of;
 use model::Vector;
@@ -19,11 +19,10 @@ pub fn musgarento_withdraw(
         ≡ crossed card.old table.now pending.old (call (withdraw vector)) }
 {
     *was = 0;
-    let refusal = unread(card);
-    if refusal != 0 {
-        return refusal;
-    }
-    let held = card_of(card);
+    let held = match readable(card) {
+        Ok(()) => card_of(card),
+        Err(why) => return why.number(),
+    };
     let v = Vector(narrow16(vector));
     let outcome = interrupt::withdraw::withdraw(held, table, pending, v);
     let numbers = hand_back(card, outcome);

@@ -3,7 +3,7 @@ ghost use Rattle.std.specs.Prelude.{◌≡◌};
 ghost use Rattle.model.specs.Calls.{call, config_write, bar_write};
 ghost use Rattle.capi.specs.Crossing.{handed, crossed};
 
-use crate::bytes::{hand_back, unread};
+use crate::bytes::{hand_back, readable};
 use crate::narrow::{narrow8, narrow16, narrow32};
 use image::get::card_of;
 
@@ -21,11 +21,10 @@ pub fn musgarento_config_write(
         ≡ crossed card.old table.now pending.old (call (config_write offset width value out.old)) }
 {
     *count = 0;
-    let refusal = unread(card);
-    if refusal != 0 {
-        return refusal;
-    }
-    let held = card_of(card);
+    let held = match readable(card) {
+        Ok(()) => card_of(card),
+        Err(why) => return why.number(),
+    };
     let outcome = config_access::config_write::config_write(
         held,
         table,
@@ -55,11 +54,10 @@ pub fn musgarento_bar_write(
         ≡ crossed card.old table.old pending.old (call (bar_write bar offset width value out.old)) }
 {
     *count = 0;
-    let refusal = unread(card);
-    if refusal != 0 {
-        return refusal;
-    }
-    let held = card_of(card);
+    let held = match readable(card) {
+        Ok(()) => card_of(card),
+        Err(why) => return why.number(),
+    };
     let outcome = bar_access::bar_write::bar_write(
         held,
         table,

@@ -1,5 +1,5 @@
 -- One law for each way out of the functions that play a log through the interface. Assumes nothing.
-use mathlib.Core.Path.{◌≡◌, refl, ap, ◌∙◌}
+use mathlib.Core.Path.{◌≡◌, refl, sym, ap, ◌∙◌}
 use mathlib.Core.Bool.{Bool, true, false, not, ◌&&◌}
 use mathlib.Core.List.{List, [], ◌∷◌}
 use Prim.Native.Nat.{ℕ}
@@ -9,9 +9,13 @@ use borrow.Author.Tests.{eq-eqb, ne_eqb, eqb-true}
 use Rattle.words.specs.Lists.{first_of}
 use Rattle.words.specs.Bytes.{byte}
 use Rattle.words.proofs.BoolLaws.{both}
+use Rattle.std.specs.Prelude.{Option, Result, Ok, Err}
+use Rattle.model.specs.declared.Answer.{Answer}
 use Rattle.model.specs.Calls.{Call, call, reset}
 use Rattle.capi.specs.Crossing.{unread}
-use Rattle.capi_log.specs.Crossing.{is_card, is_player, Crossed, handed, called_on, played}
+use Rattle.capi_log.specs.declared.turn.Stopped.{Stopped}
+use Rattle.capi_log.specs.declared.turn.Turn.{Turn}
+use Rattle.capi_log.specs.Crossing.{is_card, is_player, handed, ended_code, refusal_in, answer_in, called_on, played, turned}
 
 -- ---- the bytes of a card, and of a player
 
@@ -57,10 +61,19 @@ module _ (card table pending player log out : List ℕ) where
   unfolding played
   through c e = rw (c, e)
 
-  -- x is what a call on those bytes gave, and e, r and a are the numbers of its record's end
-  pub told : is_card card ≡ true → is_player player ≡ true
-      → (x : Crossed) → x ≡ called_on card table pending player log out
-      → (e r a : ℕ) → (e ≡ x.ended) × (r ≡ x.refusal) × (a ≡ x.answer)
-      → handed x.returned x.card x.table x.pending x.player x.output x.taken e r a x.count ≡ played card table pending player log out
-  told c p x q e r a h =
-      (λ i. handed x.returned x.card x.table x.pending x.player x.output x.taken (h.0 i) (h.1 i) (h.2 i) x.count) ∙ q ∙ through c p
+  module _ (c : is_card card ≡ true) (p : is_player player ≡ true) (t : Turn) (card' table' pending' player' output' : List ℕ) (count' : ℕ) where
+    -- t is what a call on those bytes gave, and e, r and a are the numbers of its record's end
+    pub told_ended : (made : Option Answer) → t.ended ≡ Ok made → turned t card' table' pending' player' output' count' ≡ called_on card table pending player log out
+        → (e r a : ℕ) → (e ≡ ended_code made) × (r ≡ refusal_in made) × (a ≡ answer_in made)
+        → handed 0 card' table' pending' player' output' t.taken e r a count' ≡ played card table pending player log out
+    told_ended made is q e r a h =
+        (λ i. handed 0 card' table' pending' player' output' t.taken (h.0 i) (h.1 i) (h.2 i) count')
+        ∙ ap (λ (x : Result (Option Answer) Stopped). turned (record { taken = t.taken; ended = x }) card' table' pending' player' output' count') (sym is)
+        ∙ q ∙ through c p
+
+    -- and it goes on no more
+    pub told_stopped : (s : Stopped) → t.ended ≡ Err s → turned t card' table' pending' player' output' count' ≡ called_on card table pending player log out
+        → handed 30 card' table' pending' player' output' t.taken 0 0 0 count' ≡ played card table pending player log out
+    told_stopped s is q =
+        ap (λ (x : Result (Option Answer) Stopped). turned (record { taken = t.taken; ended = x }) card' table' pending' player' output' count') (sym is)
+        ∙ q ∙ through c p

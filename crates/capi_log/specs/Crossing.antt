@@ -1,30 +1,20 @@
 -- A call of a player as it crosses the C interface: a card is 289 bytes, a player 25. Assumes nothing.
-use Rattle.std.specs.Prelude.{Bool, cond, ◌&&◌, List, ◌∷◌, ◌++◌, ℕ, ◌%◌, ltb, eqb, length}
+use Rattle.std.specs.Prelude.{Bool, cond, ◌&&◌, List, ◌∷◌, ◌++◌, ℕ, ◌%◌, ltb, eqb, length, Option, Some, None, Result, Ok, Err}
 use Rattle.words.specs.Bytes.{byte, part, word16, word64, bytes_of}
+use Rattle.model.specs.declared.Answer.{Answer}
 use Rattle.model.specs.Answers.{refusal_of, event_code}
 use Rattle.model.specs.World.{World, world_of}
 use Rattle.model.specs.Image.{card_in}
-use Rattle.call_log.specs.declared.Stage.{Stage}
-use Rattle.call_log.specs.declared.Stage.TheVariants.{Header, Records, Again, Broken}
+unfoldable pub use Rattle.call_log.specs.Stages.{stage_byte, stage_of}
 use Rattle.call_log.specs.declared.Player.{Player}
 use Rattle.call_log.specs.Players.{player_of}
 use Rattle.call_log.specs.Scanning.{whole_in}
-use Rattle.player.specs.declared.Ended.{Ended}
-use Rattle.player.specs.declared.Ended.TheVariants.{Nothing, With}
 use Rattle.player.specs.Plays.{Heard, play_call}
 use Rattle.capi.specs.Crossing.{card_over}
+use Rattle.capi_log.specs.declared.turn.Stopped.{Stopped}
 use Rattle.capi_log.specs.declared.turn.Turn.{Turn}
 
 -- ---- a player as bytes: stage, bytes taken, the 15 bytes of a record, the number of complete records, low byte first
-
-unfoldable pub stage_byte : Stage → ℕ
-stage_byte Header = 0
-stage_byte Records = 1
-stage_byte Again = 2
-stage_byte Broken = 3
-
-unfoldable pub stage_of : ℕ → Stage
-stage_of b = cond (eqb b 0) Header (cond (eqb b 1) Records (cond (eqb b 2) Again Broken))
 
 unfoldable pub player_bytes : Player → List ℕ
 player_bytes p = stage_byte p.stage ∷ p.taken % 256 ∷ p.part ++ bytes_of 8 p.number
@@ -46,9 +36,9 @@ is_player bytes = eqb (length bytes) 25 && ltb (byte bytes 0) 4
 unfoldable pub is_between : List ℕ → Bool
 is_between bytes = eqb (word16 bytes 0) 1 && eqb (word64 bytes 2) 0 && eqb (word64 bytes 9) 0
 
--- how many bytes the record has that stands whole at the start of a log, for a player between two records; 0 for any other player, and if none does
-abbrev pub at_once : (player log : List ℕ) → ℕ
-at_once player log = cond (is_between player) (whole_in log) 0
+-- how many bytes the record has that stands whole at the start of a log, for a player between two records; none for any other player, and if none does
+abbrev pub at_once : (player log : List ℕ) → Option ℕ
+at_once player log = cond (is_between player) (whole_in log) None
 
 -- ---- what crosses
 
@@ -82,22 +72,22 @@ handed returned card table pending player output taken ended refusal answer coun
 }
 
 -- what became of the record as numbers: 1 if its call was made, its refusal, and what became of an event
-abbrev pub ended_code : Ended → ℕ
-ended_code Nothing = 0
-ended_code (With answer) = 1
+abbrev pub ended_code : Option Answer → ℕ
+ended_code None = 0
+ended_code (Some answer) = 1
 
-abbrev pub refusal_in : Ended → ℕ
-refusal_in Nothing = 0
-refusal_in (With answer) = refusal_of answer
+abbrev pub refusal_in : Option Answer → ℕ
+refusal_in None = 0
+refusal_in (Some answer) = refusal_of answer
 
-abbrev pub answer_in : Ended → ℕ
-answer_in Nothing = 0
-answer_in (With answer) = event_code answer
+abbrev pub answer_in : Option Answer → ℕ
+answer_in None = 0
+answer_in (Some answer) = event_code answer
 
 -- the bytes of the card: they stay where no call was made, and beside a refusal
-abbrev pub card_after : List ℕ → Ended → World → List ℕ
-card_after card Nothing w = card
-card_after card (With answer) w = card_over (refusal_of answer) card w
+abbrev pub card_after : List ℕ → Option Answer → World → List ℕ
+card_after card None w = card
+card_after card (Some answer) w = card_over (refusal_of answer) card w
 
 abbrev pub back : (card : List ℕ) → Heard → Crossed
 back card h =
@@ -115,7 +105,10 @@ played card table pending player log out =
     (called_on card table pending player log out)
     (handed 60 card table pending player out 0 0 0 0 0)
 
--- a result of the code with the later contents of each buffer
+-- a result of the code, 30 where the player goes on no more, with the later contents of each buffer
 abbrev pub turned : Turn → (card table pending player output : List ℕ) → (count : ℕ) → Crossed
-turned r card table pending player output count =
-    handed r.refusal card table pending player output r.taken (ended_code r.ended) (refusal_in r.ended) (answer_in r.ended) count
+turned r card table pending player output count = by r.ended
+  where
+    by : Result (Option Answer) Stopped → Crossed
+    by (Ok ended) = handed 0 card table pending player output r.taken (ended_code ended) (refusal_in ended) (answer_in ended) count
+    by (Err e) = handed 30 card table pending player output r.taken 0 0 0 count

@@ -1,24 +1,33 @@
 // A log written.
-ghost use Rattle.std.specs.Prelude.{◌≡◌};
+ghost use Rattle.std.specs.Prelude.{◌≡◌, [], MatchOption};
 ghost use Rattle.std.proofs.Math.Option.{some};
 ghost use Rattle.model.specs.Answers.{refusal_of};
-ghost use Rattle.call_log.specs.Logs.{header};
-ghost use Rattle.call_log.specs.Recorder.{appended};
+ghost use Rattle.call_log.specs.Logs.{header, size_of};
+ghost use Rattle.call_log.specs.Kinds.{kind_byte};
+ghost use Rattle.call_log.specs.Recorder.{appended, appended_to};
 ghost use Rattle.capi_log.specs.Recording.{wrote, wrote_by, config_write_of, record_of, wrote_record};
 
 use call_log::Record;
-use call_log::recorder::Logged;
+use call_log::kind::Kind;
+use call_log::recorder::NoRoom;
 use capi::narrow::{narrow8, narrow16, narrow32};
 use model::Answer;
+use model::refusal::Refusal;
 
 // What was appended as numbers.
-fn told(logged: Logged, count: &mut usize) -> u8
-    ensures { (result ≡ refusal_of logged.answer) × (count.new ≡ logged.count) }
+fn told(logged: Result<usize, NoRoom>, count: &mut usize) -> u8
+    ensures { wrote result [] count.new ≡ wrote_by (appended_to logged []) }
 {
-    *count = logged.count;
-    let answer = logged.answer;
-    let numbers = capi::bytes::numbers_of(answer);
-    numbers.refusal
+    match logged {
+        Ok(appended) => {
+            *count = appended;
+            0
+        }
+        Err(NoRoom) => {
+            *count = 0;
+            Refusal::Room as u8
+        }
+    }
 }
 
 // Mark and version.
@@ -49,15 +58,23 @@ fn append_config_write(
     ensures { wrote result out.new count.new ≡ wrote_record (config_write_of offset width value) refusal out.old }
 {
     *count = 0;
-    if value > 4294967295 {
-        return 60;
-    }
+    let Ok(value) = u32::try_from(value) else {
+        return Refusal::Lengths as u8;
+    };
     let call = Record::ConfigWrite {
         offset: narrow16(offset),
         width: narrow8(width),
-        value: value as u32,
+        value,
     };
     append(call, refusal, out, count)
+}
+
+// The kind that a number stands for, if it does for one.
+fn kind_of(number: u64) -> Option<Kind>
+    ensures { MatchOption result (size_of number ≡ 0) (λ kind. kind_byte kind ≡ number) }
+{
+    let code = u8::try_from(number).ok()?;
+    Kind::try_from(code).ok()
 }
 
 pub fn musgarento_log_record(
@@ -73,11 +90,14 @@ pub fn musgarento_log_record(
     ensures { wrote result out.new count.new ≡ wrote_record (record_of kind bar offset width value) refusal out.old }
 {
     *count = 0;
+    let Some(kind) = kind_of(kind) else {
+        return Refusal::Lengths as u8;
+    };
     match kind {
-        1 => append(Record::Event(narrow16(value)), refusal, out, count),
-        2 => append(Record::Line(value != 0), refusal, out, count),
-        3 => append_config_write(offset, width, value, refusal, out, count),
-        4 => {
+        Kind::Event => append(Record::Event(narrow16(value)), refusal, out, count),
+        Kind::Line => append(Record::Line(value != 0), refusal, out, count),
+        Kind::ConfigWrite => append_config_write(offset, width, value, refusal, out, count),
+        Kind::BarWrite => {
             let call = Record::BarWrite {
                 bar: narrow8(bar),
                 offset: narrow32(offset),
@@ -86,7 +106,6 @@ pub fn musgarento_log_record(
             };
             append(call, refusal, out, count)
         }
-        5 => append(Record::Reset, refusal, out, count),
-        _ => 60,
+        Kind::Reset => append(Record::Reset, refusal, out, count),
     }
 }

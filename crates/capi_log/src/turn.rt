@@ -1,52 +1,52 @@
 // A call of a player, on the bytes of the card and of the player.
-ghost use Rattle.std.specs.Prelude.{◌≡◌, length};
+ghost use Rattle.std.specs.Prelude.{◌≡◌, length, Ok, Some, IsSome};
 ghost use Rattle.call_log.specs.Players.{advanced};
 ghost use Rattle.call_log.specs.Plays.{onward};
-ghost use Rattle.player.specs.declared.Ended.TheVariants.{With};
 ghost use Rattle.capi_log.specs.Crossing.{player_in, player_bytes, at_once, called_on, turned};
 
 use crate::bytes::{is_between, player_of, put_counted, put_player};
+use call_log::End;
 use call_log::advance::{advance, advance_between, held_record, onward};
 use call_log::answer::lacks_room;
 use call_log::format::record_in;
 use call_log::whole::whole_in;
 use model::Answer;
-use player::Ended;
 use player::perform::perform;
 
-// What a call hands back beside the bytes: how many bytes of the log it took, 0 or 30, and what became of the record.
+// The player goes on no more: refusal 30.
+#[derive(Clone, Copy, Debug, PartialEq, Eq)]
+pub struct Stopped;
+
+// What a call hands back beside the bytes: how many bytes of the log it took, and what became of the record, if one was performed.
 #[derive(Clone, Copy)]
 pub struct Turn {
     pub taken: usize,
-    pub refusal: u8,
-    pub ended: Ended,
+    pub ended: Result<Option<Answer>, Stopped>,
 }
 
 // A record was performed.
 fn done(taken: usize, answer: Answer) -> Turn
-    ensures { result ≡ record { taken = taken; refusal = 0; ended = With answer } }
+    ensures { result ≡ record { taken = taken; ended = Ok (Some answer) } }
 {
     Turn {
         taken,
-        refusal: 0,
-        ended: Ended::With(answer),
+        ended: Ok(Some(answer)),
     }
 }
 
-// How many bytes the record has that stands whole in the log, where the player is between two records; else 0.
-fn at_once(player: &[u8], log: &[u8]) -> usize
-    requires { length player.now ≡ 25 }
+// How many bytes the record has that stands whole in the log, if one does and the player is between two records.
+fn at_once(player: &[u8; 25], log: &[u8]) -> Option<usize>
     ensures { result ≡ at_once player.now log.now }
 {
     if !is_between(player) {
-        return 0;
+        return None;
     }
     whole_in(log)
 }
 
 // Writes the player after that record was answered: it is kept if it is to be tried again.
-fn put_after(player: &mut [u8], log: &[u8], answer: Answer)
-    requires { (length player.old ≡ 25) × (at_once player.old log.now ≡ 0 → ⊥) }
+fn put_after(player: &mut [u8; 25], log: &[u8], answer: Answer)
+    requires { IsSome (at_once player.old log.now) }
     ensures { player.new ≡ player_bytes (onward (advanced (player_in player.old) log.now).player answer) }
 {
     if !lacks_room(answer) {
@@ -54,8 +54,7 @@ fn put_after(player: &mut [u8], log: &[u8], answer: Answer)
         return;
     }
     let next = advance_between(words::get::word64(player, 17), log);
-    let kept = next.player;
-    put_player(player, onward(kept, answer));
+    put_player(player, onward(next.player, answer));
 }
 
 // One call: a record that stands whole in the log is read there, any other as the player takes it.
@@ -63,33 +62,43 @@ pub fn take_turn(
     card: &mut [u8],
     table: &mut [u8],
     pending: &mut [u8],
-    player: &mut [u8],
+    player: &mut [u8; 25],
     log: &[u8],
     out: &mut [u8],
     count: &mut usize,
 ) -> Turn
-    requires { (length card.old ≡ 289) × (length player.old ≡ 25) }
+    requires { length card.old ≡ 289 }
     ensures { turned result card.new table.new pending.new player.new out.new count.new
         ≡ called_on card.old table.old pending.old player.old log.now out.old }
 {
     *count = 0;
-    let size = at_once(player, log);
-    if size != 0 {
+    if let Some(size) = at_once(player, log) {
         let answer = perform(card, table, pending, record_in(log), out, count);
         put_after(player, log, answer);
         return done(size, answer);
     }
     let next = advance(player_of(player), log);
     let held = next.player;
-    if !next.due {
-        put_player(player, held);
-        return Turn {
-            taken: next.taken,
-            refusal: next.refusal,
-            ended: Ended::Nothing,
-        };
+    let taken = next.taken;
+    match next.end {
+        End::More => {
+            put_player(player, held);
+            Turn {
+                taken,
+                ended: Ok(None),
+            }
+        }
+        End::Whole => {
+            let answer = perform(card, table, pending, held_record(held), out, count);
+            put_player(player, onward(held, answer));
+            done(taken, answer)
+        }
+        End::Wrong => {
+            put_player(player, held);
+            Turn {
+                taken,
+                ended: Err(Stopped),
+            }
+        }
     }
-    let answer = perform(card, table, pending, held_record(held), out, count);
-    put_player(player, onward(held, answer));
-    done(next.taken, answer)
 }

@@ -10,6 +10,7 @@ use borrow.Author.Tests.{eq-eqb, ne_eqb}
 use Rattle.words.proofs.BoolLaws.{by_test}
 use Rattle.words.specs.Bytes.{byte}
 use Rattle.tlp.specs.declared.decode.Message as Message
+use Rattle.std.specs.Prelude.{Option}
 use Rattle.tlp.specs.declared.decode.Packet.{Packet}
 use Rattle.tlp.specs.Decoded.{decoded, first_length}
 use Rattle.capi_query.specs.declared.packets.Fields.{Fields}
@@ -37,6 +38,6 @@ first-within l = by_test (eqb (byte l 0) 0x60) (λ q. rw q (omega arith)) (λ q.
 pub first_part : (l : List ℕ) (n : ℕ) → n ≡ first_length l → n ≡ length (take n l)
 first_part l n e = sym (length-take-le n l (omega (arith, e, first-within l)))
 
-pub first-told : (l : List ℕ) (n : ℕ) (p : Packet) (r : Fields) → n ≡ first_length l → p ≡ decoded (take n l) → r ≡ fields_of n p → r ≡ first_fields l
+pub first-told : (l : List ℕ) (n : ℕ) (p : Option Packet) (r : Fields) → n ≡ first_length l → p ≡ decoded (take n l) → r ≡ fields_of n p → r ≡ first_fields l
 unfolding first_fields
 first-told l n p r e d q = q ∙ ap (fields_of n) d ∙ ap (λ (k : ℕ). fields_of k (decoded (take k l))) e

@@ -14,6 +14,7 @@ use Rattle.words.specs.Bits.{of_bool}
 use Rattle.words.proofs.BoolLaws.{cond_elim}
 use Rattle.model.specs.Packets.{message, message_size, wire_message}
 use Rattle.model.proofs.Vectors.PacketLaws.{message-length, wire-length}
+use Rattle.std.specs.Prelude.{Option, Some, None}
 use Rattle.tlp.specs.declared.decode.Message as Message
 use Rattle.tlp.specs.declared.decode.Level.{Level}
 use Rattle.tlp.specs.declared.decode.Packet.{Packet}
@@ -28,7 +29,7 @@ use Rattle.capi_query.proofs.FieldsFor.{first_part}
 -- ---- a packet that stands first, with any bytes behind it
 
 -- of p with its own length first in l, the fields are those that p decodes to
-first_decodes : (p rest : List ℕ) (n : ℕ) (x : Packet) → first_length (p ++ rest) ≡ n → length p ≡ n → decoded p ≡ x → first_fields (p ++ rest) ≡ fields_of n x
+first_decodes : (p rest : List ℕ) (n : ℕ) (x : Option Packet) → first_length (p ++ rest) ≡ n → length p ≡ n → decoded p ≡ x → first_fields (p ++ rest) ≡ fields_of n x
 unfolding first_fields
 first_decodes p rest n x e k d =
     ap (λ (m : ℕ). fields_of m (decoded (take m (p ++ rest)))) e ∙ ap (fields_of n) (ap decoded (take_at p rest n k) ∙ d)
@@ -76,11 +77,11 @@ module _ (l : List ℕ) (n : ℕ) (part : n ≡ length (take n l)) where
       let size : n ≡ 16 = part ∙ ap length i.bytes ∙ wire-length w.requester w.pin w.active in
       rw size (wire_first w.requester w.pin w.active i.requester i.first i.last (rw size at i.bytes))
 
-  packet_stands : (x : Packet) → decoded (take n l) ≡ x → Either l (fields_of n x)
+  packet_stands : (x : Option Packet) → decoded (take n l) ≡ x → Either l (fields_of n x)
   unfolding fields_of
-  packet_stands (Packet.Message m) e = message_stands m (decoded-message (take n l) m e)
-  packet_stands (Packet.Wire w) e = inr (wire_stands w (decoded-wire (take n l) w e))
-  packet_stands Packet.Other e = inl refl
+  packet_stands (Some (Packet.Message m)) e = message_stands m (decoded-message (take n l) m e)
+  packet_stands (Some (Packet.Wire w)) e = inr (wire_stands w (decoded-wire (take n l) w e))
+  packet_stands None e = inl refl
 
 -- no packet, or one that stands first
 told : (l : List ℕ) → Either l (first_fields l)

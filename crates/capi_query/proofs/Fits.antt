@@ -25,8 +25,7 @@ use Rattle.model.proofs.Refusals.{restore-number}
 use Rattle.model.proofs.ImageExact.{reads-back, restored}
 use Rattle.model.proofs.Calls.RestoreCalls as RestoreCalls
 use Rattle.model.proofs.Calls.RestoreCalls.{IsImage, saved_sound, none-refuses}
-use Rattle.capi_query.specs.declared.lengths.Lengths.{Lengths}
-use Rattle.capi_query.specs.Lengths.{lengths, lengths_of, config_lengths, image_refusal, image_lengths}
+use Rattle.capi_query.specs.Lengths.{Lengths, lengths, lengths_of, config_lengths, image_refusal, image_lengths}
 
 -- ---- a start
 

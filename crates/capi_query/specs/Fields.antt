@@ -1,5 +1,5 @@
 -- What `musgarento_packet` tells of the first of some packets. Assumes nothing.
-use Rattle.std.specs.Prelude.{cond, List, ℕ, ◌+◌, ◌*◌, ◌%◌, ◌^◌, eqb, take}
+use Rattle.std.specs.Prelude.{cond, List, ℕ, ◌+◌, ◌*◌, ◌%◌, ◌^◌, eqb, take, Option, Some, None}
 use Rattle.words.specs.Bits.{of_bool}
 use Rattle.tlp.specs.declared.decode.Message as Message
 use Rattle.tlp.specs.declared.decode.Level.{Level}
@@ -25,10 +25,10 @@ message_fields count m =
 unfoldable pub wire_fields : (count : ℕ) → Level → Fields
 wire_fields count w = fields 0 count 2 w.requester 0 0 w.pin (of_bool w.active)
 
-unfoldable pub fields_of : (count : ℕ) → Packet → Fields
-fields_of count (Packet.Message m) = message_fields count m
-fields_of count (Packet.Wire w) = wire_fields count w
-fields_of count Packet.Other = no_packet
+unfoldable pub fields_of : (count : ℕ) → Option Packet → Fields
+fields_of count (Some (Packet.Message m)) = message_fields count m
+fields_of count (Some (Packet.Wire w)) = wire_fields count w
+fields_of count None = no_packet
 
 -- the first of packets that stand one after another ("Packets")
 unfoldable pub first_fields : List ℕ → Fields

@@ -3,9 +3,8 @@ use Rattle.std.specs.Prelude.{Bool, ◌&&◌, List, [], ◌∷◌, ◌++◌, ℕ
 use Rattle.words.specs.Lists.{same}
 use Rattle.model.specs.Cases.{list_from, capability, msix, msix_card, msi_card, wire_packet, message32, message64}
 use Rattle.model.specs.Examples.Restores.{bare, good_image, image_for}
-use Rattle.capi_query.specs.declared.lengths.Lengths.{Lengths}
 use Rattle.capi_query.specs.declared.packets.Fields.{Fields}
-use Rattle.capi_query.specs.Lengths.{config_lengths, image_lengths}
+use Rattle.capi_query.specs.Lengths.{Lengths, config_lengths, image_lengths}
 use Rattle.capi_query.specs.Fields.{first_fields}
 
 -- ---- rows of numbers: the refusal, N and the two lengths; and the eight numbers told of a packet

@@ -1,74 +1,68 @@
 // The vectors and the lengths of table and pending array, of a configuration and of an image.
 ghost use Rattle.std.specs.Prelude.{◌≡◌};
 ghost use Rattle.model.specs.Shape.{shape_of};
-ghost use Rattle.capi_query.specs.Lengths.{lengths, refused, lengths_of, config_lengths, image_lengths};
+ghost use Rattle.capi_query.specs.Lengths.{lengths, told, told_of, config_lengths, image_lengths};
 
-use image::format::Image;
-use snapshot::held::{held_card, is_saved, table_length};
+use model::refusal::Refusal;
 
-// What is told: zeros beside a refusal.
-#[derive(Clone, Copy)]
+// What is told.
+#[derive(Clone, Copy, Debug, PartialEq, Eq)]
 pub struct Lengths {
-    pub refusal: u8,
     pub vectors: usize,
     pub table: usize,
     pub pending: usize,
 }
 
-fn refused(refusal: u8) -> Lengths
-    ensures { result ≡ refused refusal }
-{
-    Lengths {
-        refusal,
-        vectors: 0,
-        table: 0,
-        pending: 0,
-    }
-}
-
 fn lengths_of(config: &[u8; 256]) -> Lengths
-    ensures { result ≡ lengths_of (shape_of config.now) }
+    ensures { result ≡ told_of (shape_of config.now) }
 {
     let found = layout::capability::read_list(config);
     let s = layout::shape::shape(config, found);
     Lengths {
-        refusal: 0,
         vectors: s.msix.vectors,
         table: layout::start::table_bytes(s),
         pending: layout::start::pending_bytes(s),
     }
 }
 
-fn config_lengths(config: &[u8]) -> Lengths
-    ensures { result ≡ config_lengths config.now }
+fn config_lengths(config: &[u8]) -> Result<Lengths, Refusal>
+    ensures { told result ≡ config_lengths config.now }
 {
-    if config.len() != 256 {
-        return refused(60);
-    }
-    let bytes = image::get::config_at(config, 0);
-    lengths_of(&bytes)
+    let config = config.as_array::<256>().ok_or(Refusal::Lengths)?;
+    Ok(lengths_of(config))
 }
 
 // The checks of a restore, but for that of the lent buffers.
-fn image_lengths(image: &[u8]) -> Lengths
-    ensures { result ≡ image_lengths image.now }
+fn image_lengths(image: &[u8]) -> Result<Lengths, Refusal>
+    ensures { told result ≡ image_lengths image.now }
 {
-    if image.len() < Image::TABLE {
-        return refused(20);
+    let held = snapshot::held::read(image)?;
+    Ok(lengths_of(&held.card.function.config))
+}
+
+// Writes what is told, zeros beside a refusal.
+fn write_out(
+    found: Result<Lengths, Refusal>,
+    vectors: &mut usize,
+    table_len: &mut usize,
+    pending_len: &mut usize,
+) -> u8
+    ensures { lengths result vectors.new table_len.new pending_len.new ≡ told found }
+{
+    match found {
+        Ok(l) => {
+            *vectors = l.vectors;
+            *table_len = l.table;
+            *pending_len = l.pending;
+            0
+        }
+        Err(why) => {
+            *vectors = 0;
+            *table_len = 0;
+            *pending_len = 0;
+            why.number()
+        }
     }
-    if !image::get::is_marked(image) {
-        return refused(20);
-    }
-    if image::get::version(image) != Image::VERSION {
-        return refused(21);
-    }
-    let held = held_card(image);
-    let n = table_length(held);
-    if !is_saved(image, held, n) {
-        return refused(22);
-    }
-    let config = held.function.config;
-    lengths_of(&config)
 }
 
 pub fn musgarento_config_lengths(
@@ -79,11 +73,7 @@ pub fn musgarento_config_lengths(
 ) -> u8
     ensures { lengths result vectors.new table_len.new pending_len.new ≡ config_lengths config.now }
 {
-    let told = config_lengths(config);
-    *vectors = told.vectors;
-    *table_len = told.table;
-    *pending_len = told.pending;
-    told.refusal
+    write_out(config_lengths(config), vectors, table_len, pending_len)
 }
 
 pub fn musgarento_image_lengths(
@@ -94,9 +84,5 @@ pub fn musgarento_image_lengths(
 ) -> u8
     ensures { lengths result vectors.new table_len.new pending_len.new ≡ image_lengths image.now }
 {
-    let told = image_lengths(image);
-    *vectors = told.vectors;
-    *table_len = told.table;
-    *pending_len = told.pending;
-    told.refusal
+    write_out(image_lengths(image), vectors, table_len, pending_len)
 }

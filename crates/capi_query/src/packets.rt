@@ -1,10 +1,11 @@
 // The first of some packets, as numbers.
-ghost use Rattle.std.specs.Prelude.{◌≡◌, ◌<◌};
+ghost use Rattle.std.specs.Prelude.{◌≡◌};
 ghost use Rattle.capi_query.specs.Fields.{fields, no_packet, message_fields, wire_fields, fields_of, first_fields};
 
 use tlp::decode::{Level, Message, Packet};
 
 // What is told of a packet: 60 and zeros where there is none. Kind 1 is a message, kind 2 a wire packet; what a kind has no use for is 0.
+// Numbers and no enums: they are what C is told (`musgarento_packet`), and the theorem `packet_exact` speaks of them so.
 #[derive(Clone, Copy)]
 pub struct Fields {
     pub refusal: u8,
@@ -32,12 +33,6 @@ fn no_packet() -> Fields
     }
 }
 
-fn wide(x: u32) -> u64
-    ensures { (result ≡ x) × (result < 4294967296) }
-{
-    x as u64
-}
-
 // A message of so many bytes. Document 01 stores bits 1:0 of an address as 0.
 fn message_fields(count: usize, m: Message) -> Fields
     ensures { result ≡ message_fields count m }
@@ -50,7 +45,7 @@ fn message_fields(count: usize, m: Message) -> Fields
         count,
         kind: 1,
         requester: m.requester,
-        address: wide(m.upper) * 4294967296 + wide(m.address),
+        address: u64::from(m.upper) * 4294967296 + u64::from(m.address),
         value: m.value,
         pin: 0,
         level: 0,
@@ -72,13 +67,15 @@ fn wire_fields(count: usize, w: Level) -> Fields
     }
 }
 
-fn fields_of(count: usize, packet: Packet) -> Fields
+fn fields_of(count: usize, packet: Option<Packet>) -> Fields
     ensures { result ≡ fields_of count packet }
 {
-    match packet {
+    let Some(found) = packet else {
+        return no_packet();
+    };
+    match found {
         Packet::Message(m) => message_fields(count, m),
         Packet::Wire(w) => wire_fields(count, w),
-        Packet::Other => no_packet(),
     }
 }
 
@@ -86,8 +83,7 @@ fn first_fields(packets: &[u8]) -> Fields
     ensures { result ≡ first_fields packets.now }
 {
     let count = tlp::decode::first_length(packets);
-    let packet = tlp::decode::decode(&packets[..count]);
-    fields_of(count, packet)
+    fields_of(count, tlp::decode::decode(&packets[..count]))
 }
 
 pub fn musgarento_packet(

@@ -6,6 +6,7 @@ ghost use Rattle.switch.specs.Switches.{port_of};
 ghost use Rattle.capi_switch.specs.Crossing.{port_byte, switch_bytes, wires_in, switch_in, is_switch, ports_clean, switch_over};
 
 use model::Answer;
+use std::array;
 use switch::state::wires;
 use switch::{Port, Switch};
 
@@ -14,37 +15,23 @@ fn ports_clean(b: &[u8]) -> bool
     requires { length b.now ≡ 10 }
     ensures { result ≡ ports_clean b.now }
 {
-    (b[2] < 16)
-        & (b[3] < 16)
-        & (b[4] < 16)
-        & (b[5] < 16)
-        & (b[6] < 16)
-        & (b[7] < 16)
-        & (b[8] < 16)
-        & (b[9] < 16)
+    b[2..].iter().all(|wires| *wires < 16)
 }
 
 // Whether these are the bytes of a switch.
 pub fn is_switch(bytes: &[u8]) -> bool
     ensures { result ≡ is_switch bytes.now }
 {
-    if bytes.len() != 10 {
-        return false;
-    }
-    ports_clean(bytes)
+    bytes.len() == 10 && ports_clean(bytes)
 }
 
 // The wires in a port's byte.
 fn port_of(b: u8) -> Port
     ensures { result ≡ port_of (wires_in b) }
 {
-    let wires = [
-        words::bits::bit(b, 0),
-        words::bits::bit(b, 1),
-        words::bits::bit(b, 2),
-        words::bits::bit(b, 3),
-    ];
-    Port { wires }
+    Port {
+        wires: array::from_fn(|i| words::bits::bit(b, i)),
+    }
 }
 
 // The switch that the bytes hold.
@@ -53,16 +40,10 @@ pub fn switch_of(b: &[u8]) -> Switch
     ensures { result ≡ switch_in b.now }
 {
     let requester = words::get::word16(b, 0);
-    let ports = [
-        port_of(b[2]),
-        port_of(b[3]),
-        port_of(b[4]),
-        port_of(b[5]),
-        port_of(b[6]),
-        port_of(b[7]),
-        port_of(b[8]),
-        port_of(b[9]),
-    ];
+    let mut ports = [port_of(0); 8];
+    for (k, wires) in b[2..].iter().enumerate() {
+        ports[k] = port_of(*wires);
+    }
     Switch { requester, ports }
 }
 
@@ -73,14 +54,14 @@ fn flag(active: bool) -> u8
     active as u8
 }
 
-// A port's wires as a byte.
+// A port's wires as a byte: four weights, which a fold over the wires would have to count up.
 fn port_byte(wires: [bool; 4]) -> u8
     ensures { result ≡ port_byte wires }
 {
     flag(wires[0]) + 2 * flag(wires[1]) + 4 * flag(wires[2]) + 8 * flag(wires[3])
 }
 
-// The bytes of a switch.
+// The bytes of a switch, written out as the layout: a loop over the ports would first need a list of zeros behind the two bytes of the requester ID.
 fn bytes_of(s: Switch) -> [u8; 10]
     ensures { result ≡ switch_bytes s }
 {
@@ -104,8 +85,7 @@ pub fn put_switch(bytes: &mut [u8], s: Switch)
     requires { length bytes.old ≡ 10 }
     ensures { bytes.new ≡ switch_bytes s }
 {
-    let new = bytes_of(s);
-    words::put::put_slice(bytes, &new);
+    bytes.copy_from_slice(&bytes_of(s));
 }
 
 // The number of an answer's refusal, or 0.
@@ -114,12 +94,7 @@ fn number_of(answer: Answer) -> u8
 {
     match answer {
         Answer::Refused(number) => number,
-        Answer::Value(value) => 0,
-        Answer::Done => 0,
-        Answer::Sent => 0,
-        Answer::Held => 0,
-        Answer::Merged => 0,
-        Answer::Lost => 0,
+        _ => 0,
     }
 }
 

@@ -4,15 +4,16 @@ ghost use Rattle.switch.specs.Calls.{pass, down};
 ghost use Rattle.capi_switch.specs.Crossing.{handed, crossed, started};
 
 use crate::bytes::{hand_back, is_switch, put_switch, switch_of};
+use model::refusal::Refusal;
 
 pub fn musgarento_switch_start(state: &mut [u8], requester: u64) -> u8
     ensures { handed result state.new [] 0 ≡ started state.old requester }
 {
     if state.len() != 10 {
-        return 60;
+        return Refusal::Lengths as u8;
     }
     if 65535 < requester {
-        return 60;
+        return Refusal::Lengths as u8;
     }
     let fresh = switch::state::start(requester as u16);
     put_switch(state, fresh);
@@ -31,7 +32,7 @@ pub fn musgarento_switch_packet(
 {
     *count = 0;
     if !is_switch(state) {
-        return 60;
+        return Refusal::Lengths as u8;
     }
     let held = switch_of(state);
     let outcome = switch::packet::pass(held, port, packet, out);
@@ -46,7 +47,7 @@ pub fn musgarento_switch_down(state: &mut [u8], port: u64, out: &mut [u8], count
 {
     *count = 0;
     if !is_switch(state) {
-        return 60;
+        return Refusal::Lengths as u8;
     }
     let held = switch_of(state);
     let outcome = switch::down::down(held, port, out);

@@ -1,44 +1,44 @@
 -- The frame of a call: refused with 1, or what the call does to a sound card; and the ways out that cores share. Assumes nothing.
+use Rattle.std.specs.Prelude.{Some}
 use mathlib.Core.Path.{◌≡◌, sym, ap, ap₂, ◌∙◌}
-use mathlib.Core.Bool.{true, false, not}
+use mathlib.Core.Bool.{false}
 use mathlib.Core.List.{List}
 use Prim.Native.Nat.{ℕ}
 use lib.Dec.{eqb}
-use borrow.Author.Tests.{not-true, not-false}
 use Rattle.words.specs.Lists.{first_of}
 use Rattle.model.specs.declared.Card.{Card}
+use Rattle.model.specs.declared.Profile.{Profile}
 use Rattle.model.specs.declared.Shape.{Shape}
 use Rattle.model.specs.World.{World, Endpoint, world_of}
 use Rattle.model.specs.Release.{settled, settle_bytes}
-use Rattle.model.specs.Sound.{shape}
+use Rattle.model.specs.Sound.{shape, sound}
 use Rattle.model.specs.Calls as Calls
 use Rattle.model.specs.Calls.{Call, rows, output_of, if_room, settle_of, performed, step}
 use Rattle.model.proofs.Calls.CallLaws.{step_unsound, step-sound, performed-row, performed-room}
 use Rattle.model.proofs.Calls.SettleCalls.{Settles}
 use Rattle.card.specs.declared.outcome.Outcome.{Outcome}
-use Rattle.card.specs.declared.sound.Checked.{Checked}
 use Rattle.card.specs.Outcomes.{refused_with, after}
+use Rattle.card.specs.declared.sound.Found.{Found}
 use Rattle.card.specs.Running.{Running, Wires, Checks}
 
--- ---- frames: a call c of a card with lent buffers t and p, and what the check said
+-- ---- frames: a call c of a card with lent buffers t and p
 
-module _ (card : Card) (t p : List ℕ) (c : Call) (k : Checked) (h : Checks card t p k) where
-  -- 1
-  pub frame_refused : (r : Outcome) → not k.sound ≡ true → r ≡ refused_with card 1 → after r t p (output_of c) ≡ step (world_of card t p) c
-  frame_refused r n er =
-      ap (λ (x : Outcome). after x t p (output_of c)) er ∙ sym (step_unsound (world_of card t p) c (sym h.sound ∙ not-true k.sound n))
+-- 1
+pub frame_refused : (card : Card) (t p : List ℕ) (c : Call) (r : Outcome) → sound (world_of card t p) ≡ false → r ≡ refused_with card 1
+    → after r t p (output_of c) ≡ step (world_of card t p) c
+frame_refused card t p c r n er = ap (λ (x : Outcome). after x t p (output_of c)) er ∙ sym (step_unsound (world_of card t p) c n)
 
-  -- what the core does
-  pub frame_core : not k.sound ≡ false → (o : Calls.Outcome) → o ≡ performed (world_of card t p) c → o ≡ step (world_of card t p) c
-  frame_core n o e = e ∙ sym (step-sound (world_of card t p) c (sym h.sound ∙ not-false k.sound n))
+-- what the core does
+pub frame_core : {card : Card} {t p : List ℕ} {k : Profile} → Running card t p k → (c : Call) (o : Calls.Outcome) → o ≡ performed (world_of card t p) c
+    → o ≡ step (world_of card t p) c
+frame_core {card = card} {t = t} {p = p} r c o e = e ∙ sym (step-sound (world_of card t p) c r.is_sound)
 
 -- what the core is given
-module _ {card : Card} {t p : List ℕ} {k : Checked} (h : Checks card t p k) (n : not k.sound ≡ false) where
-  pub frame_runs : Running card t p k.profile
-  frame_runs = h.running (not-false k.sound n)
+pub frame_runs : {card : Card} {t p : List ℕ} {k : Found} → Checks card t p (Some k) → Running card t p k.profile
+frame_runs h = h.0
 
-  pub frame_wires : Wires card k.profile k.wiring
-  frame_wires = h.wires (not-false k.sound n)
+pub frame_wires : {card : Card} {t p : List ℕ} {k : Found} → Checks card t p (Some k) → Wires card k.profile k.wiring
+frame_wires h = h.1
 
 -- ---- cores
 

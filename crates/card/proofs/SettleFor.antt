@@ -12,18 +12,24 @@ use Rattle.model.specs.declared.Answer.TheVariants.{Done}
 use Rattle.model.specs.declared.Card.{Card}
 use Rattle.model.specs.declared.Function.{Function}
 use Rattle.model.specs.declared.Shape.{Shape}
-use Rattle.model.specs.World.{Endpoint, registers, world_of, function_of}
+use Rattle.model.specs.declared.Profile.{Profile}
+use Rattle.model.specs.World.{Endpoint, registers, world_of, function_of, endpoint_of}
+use Rattle.model.specs.Vectors.{command_bit}
+use Rattle.model.proofs.BytesBound.{sweep_le}
+use Rattle.vectors.specs.Given.{regs}
 use Rattle.model.specs.Release.{pin_number, wire_due_of, wire_change, sweep_bytes, swept, settled, settle_bytes}
 use Rattle.model.specs.Calls.{settle_of}
 use Rattle.model.proofs.Calls.CallLaws.{room-short, room_fits}
 use Rattle.model.proofs.Calls.SettleCalls.{wire-first}
 use Rattle.endpoint.specs.declared.sweep.Sent.{Sent}
 use Rattle.endpoint.specs.Sweeps.{Swept}
-use Rattle.wire.specs.declared.Owed.{Owed}
-use Rattle.wire.specs.Wires.{owed_of, bytes_owed, size_of}
-use Rattle.wire.proofs.WireLaws.{owed_is, owed-length}
+use Rattle.wire.specs.declared.Wiring.{Wiring}
+use Rattle.wire.specs.declared.Wired.{Wired}
+use Rattle.wire.specs.Wires.{Owed, owed_of, bytes_owed, size_of, with_mode}
+use Rattle.wire.proofs.WireLaws.{owed_is, owed-length, at_level, settled-mode, size_small}
 use Rattle.card.specs.declared.outcome.Outcome.{Outcome}
 use Rattle.card.specs.Outcomes.{refused_with, accepted_with, after}
+use Rattle.card.specs.Running.{Unsettled}
 
 -- a changed function u of shape s on a card with buffers t and p, and the packet o that the wire owes
 module _ (card : Card) (t p : List ℕ) (s : Shape) (u : Endpoint) (o : Owed) (eo : o ≡ owed_of card.wire (wire_due_of s u)) where
@@ -66,3 +72,18 @@ module _ (card : Card) (t p : List ℕ) (s : Shape) (u : Endpoint) (o : Owed) (e
           output = (both.bytes ∙ ap (λ (l : List ℕ). over l out) bytes) i;
         })
         ∙ sym (room_fits (world_of card t p) (settled s u) Done (settle_bytes s card.wire u) out (omega (arith, size_is)))
+
+-- the level that the wire goes to, and the packet of that, of a function f with lent buffers t and p after a change
+pub settle-wire : (card : Card) (f : Function) (t p : List ℕ) (w : Wiring) (k : Profile) → Unsettled card f t p w k
+    → (d : Bool) → ((t : List ℕ) → d ≡ command_bit (regs f.config t) 10) → (r : Wired) → r ≡ with_mode w k.mode d
+    → (r.wiring.wire ≡ wire_due_of k.shape (endpoint_of f t p)) × (r.owed ≡ owed_of card.wire (wire_due_of k.shape (endpoint_of f t p)))
+settle-wire card f t p w k un d ed r er =
+    at_level _ _ _
+    (er
+    ∙ settled-mode w k.shape f.line card.wire (registers (endpoint_of f t p)) k.mode d un.line un.wire (un.pin t)
+    (sym (un.profiled.mode t)) (ed t))
+
+-- both parts are few bytes, and fit if the output is long enough
+pub settle_few : (card : Card) (f : Function) (t p : List ℕ) (w : Wiring) (k : Profile) → Unsettled card f t p w k
+    → (o : Owed) (first rest : ℕ) → first ≡ size_of o → rest ≡ length (sweep_bytes k.shape (endpoint_of f t p)) → first + rest ≤ 40976
+settle_few card f t p w k un o first rest ef er = omega (arith, size_small o, ef, sweep_le _ _ un.ready, er)

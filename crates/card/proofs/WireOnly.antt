@@ -13,8 +13,7 @@ use Rattle.model.specs.Release.{pin_number}
 use Rattle.model.specs.Calls.{Call, next, answer_of, sends, output_of, performed}
 use Rattle.model.proofs.Calls.CallLaws.{performed-room, performed-accepted, room-short}
 use Rattle.model.proofs.Calls.WireCalls.{WireOnly}
-use Rattle.wire.specs.declared.Owed.{Owed}
-use Rattle.wire.specs.Wires.{owed_of, bytes_owed, size_of}
+use Rattle.wire.specs.Wires.{Owed, owed_of, bytes_owed, size_of}
 use Rattle.wire.proofs.WireLaws.{owed_is, owed-length}
 use Rattle.card.specs.declared.outcome.Outcome.{Outcome}
 use Rattle.card.specs.Outcomes.{refused_with, accepted_with, after}

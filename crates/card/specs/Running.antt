@@ -1,5 +1,5 @@
 -- What a call's frame hands to its core: a card that was found sound, and what was worked out in finding it so. Assumes nothing.
-use Rattle.std.specs.Prelude.{◌≡◌, Bool, true, List, ℕ}
+use Rattle.std.specs.Prelude.{◌≡◌, Bool, true, false, List, ℕ, Option, MatchOption}
 use Rattle.model.specs.declared.Card.{Card}
 use Rattle.model.specs.declared.Function.{Function}
 use Rattle.model.specs.declared.Profile.{Profile}
@@ -11,7 +11,7 @@ use Rattle.model.specs.Sound.{sound}
 use Rattle.vectors.specs.Given.{regs, Profiled}
 use Rattle.wire.specs.declared.Wiring.{Wiring}
 use Rattle.wire.specs.Wires.{wiring_of}
-use Rattle.card.specs.declared.sound.Checked.{Checked}
+use Rattle.card.specs.declared.sound.Found.{Found}
 
 -- a card by its parts
 abbrev pub card_with : (config sizes : List ℕ) (events requester : ℕ) (line : Bool) (waiting : ℕ) (wire : Bool) → Card
@@ -27,11 +27,12 @@ pub record Running (card : Card) (t p : List ℕ) (k : Profile) : Type 0 where
 abbrev pub Wires : Card → Profile → Wiring → Type 0
 Wires card k w = (t : List ℕ) → w ≡ wiring_of k.shape card.function.line card.wire (regs card.function.config t)
 
--- what the check of a card says: profile and wiring are told of a sound one
-pub record Checks (card : Card) (t p : List ℕ) (r : Checked) : Type 0 where
-  pub sound : r.sound ≡ sound (world_of card t p)
-  pub running : r.sound ≡ true → Running card t p r.profile
-  pub wires : r.sound ≡ true → Wires card r.profile r.wiring
+-- what the check of a card says: profile and wiring are found exactly of a sound one
+abbrev pub Checks : (card : Card) (t p : List ℕ) → Option Found → Type 0
+Checks card t p r =
+    MatchOption r
+    (sound (world_of card t p) ≡ false)
+    (λ k. Running card t p k.profile × Wires card k.profile k.wiring)
 
 -- a changed function f of the card before its wire and its open vectors send: k is what its configuration says now, w the wire's state before
 pub record Unsettled (card : Card) (f : Function) (t p : List ℕ) (w : Wiring) (k : Profile) : Type 0 where

@@ -7,44 +7,18 @@ use model::Function;
 pub fn with_config(f: Function, config: [u8; 256]) -> Function
     ensures { result ≡ function_of config f.sizes f.events f.requester f.line f.waiting }
 {
-    let sizes = f.sizes;
-    Function {
-        config,
-        sizes,
-        events: f.events,
-        requester: f.requester,
-        line: f.line,
-        waiting: f.waiting,
-    }
+    Function { config, ..f }
 }
 
 pub fn with_line(f: Function, line: bool) -> Function
     ensures { result ≡ function_of f.config f.sizes f.events f.requester line f.waiting }
 {
-    let config = f.config;
-    let sizes = f.sizes;
-    Function {
-        config,
-        sizes,
-        events: f.events,
-        requester: f.requester,
-        line,
-        waiting: f.waiting,
-    }
+    Function { line, ..f }
 }
 
 // Other MSI waiting bits.
 pub fn with_waiting(f: Function, waiting: u32) -> Function
     ensures { result ≡ function_of f.config f.sizes f.events f.requester f.line waiting }
 {
-    let config = f.config;
-    let sizes = f.sizes;
-    Function {
-        config,
-        sizes,
-        events: f.events,
-        requester: f.requester,
-        line: f.line,
-        waiting,
-    }
+    Function { waiting, ..f }
 }

@@ -5,7 +5,8 @@ ghost use Rattle.model.specs.Calls.{settle_of};
 ghost use Rattle.card.specs.Outcomes.{after};
 ghost use Rattle.card.specs.Running.{Unsettled};
 
-use crate::outcome::{Outcome, accepted, refused};
+use crate::outcome::{Outcome, accepted, refuse};
+use model::refusal::Refusal;
 use model::{Answer, Card, Function, Profile};
 use wire::Wiring;
 
@@ -26,16 +27,15 @@ pub fn settle(
         out.old }
 {
     let disabled = vectors::mode::command_bit(&f.config, 10);
-    let mode = k.mode;
-    let wired = w.set_mode(mode, disabled);
+    let wired = w.set_mode(k.mode, disabled);
     let owed = wired.owed;
     let first = wire::owed_size(owed);
-    let rest = endpoint::sweep::owed_size(f, k, table, pending);
+    let rest = endpoint::sweep::owed_size(&f, k, table, pending);
     if out.len() < first + rest {
-        return refused(card, 6);
+        return refuse(card, Refusal::Room);
     }
     let at = wire::put_owed(out, owed, f.requester, w.pin);
-    let sent = endpoint::sweep::send_owed(f, k, table, pending, &mut out[at..]);
+    let sent = endpoint::sweep::send_owed(&f, k, table, pending, &mut out[at..]);
     let function = crate::changed::with_waiting(f, sent.waiting);
     let wire = wired.wiring.wire;
     accepted(Card { function, wire }, Answer::Done, at + sent.count)

@@ -4,64 +4,42 @@ ghost use Rattle.model.specs.Vectors.{command_bit};
 ghost use Rattle.model.specs.Release.{pin_number};
 ghost use Rattle.vectors.specs.Given.{regs};
 ghost use Rattle.wire.specs.Wires as Wires;
-ghost use Rattle.card.specs.Running.{Checks, card_with};
+ghost use Rattle.card.specs.Running.{Checks};
 
-use model::{Mode, Profile};
+use model::{Card, Mode, Profile};
 use wire::Wiring;
 
-// Whether a card is sound, what its configuration says, and the small state of its wire.
+// What the configuration of a sound card says, and the small state of its wire.
 #[derive(Clone, Copy)]
-pub struct Checked {
-    pub sound: bool,
+pub struct Found {
     pub profile: Profile,
     pub wiring: Wiring,
 }
 
 // The small state of the wire, with a mechanism in force.
-fn wiring(config: &[u8; 256], line: bool, wire: bool, mode: Mode) -> Wiring
-    ensures { (t : List ℕ) → result ≡ Wires.wiring line wire mode (pin_number (regs config.now t)) (command_bit (regs config.now t) 10) }
+fn wiring(card: &Card, mode: Mode) -> Wiring
+    ensures { (t : List ℕ)
+        → result ≡ Wires.wiring card.now.function.line card.now.wire mode (pin_number (regs card.now.function.config t))
+        (command_bit (regs card.now.function.config t) 10) }
 {
-    let disabled = vectors::mode::command_bit(config, 10);
-    let pin = vectors::pin::pin_number(config);
     Wiring {
-        line,
-        wire,
+        line: card.function.line,
+        wire: card.wire,
         mode,
-        pin,
-        disabled,
+        pin: vectors::pin::pin_number(&card.function.config),
+        disabled: vectors::mode::command_bit(&card.function.config, 10),
     }
 }
 
-// Refusal 1 of every call but start and restore. The card comes in parts, so that its arrays are lent and not copied. What is
-// worked out here once is handed to the call.
-pub fn check<'a>(
-    config: &'a [u8; 256],
-    sizes: &'a [u32; 6],
-    events: u16,
-    requester: u16,
-    line: bool,
-    waiting: u32,
-    wire: bool,
-    table: &[u8],
-    pending: &[u8],
-) -> Checked
-    ensures { Checks (card_with config.now sizes.now events requester line waiting wire) table.now pending.now result }
+// Refusal 1 of every call but start and restore is where nothing is found. What is worked out here once is handed to the call. Each call tests
+// it by itself: one frame over a closure would have to lend table and pending array as the call that writes both.
+pub fn check(card: &Card, table: &[u8], pending: &[u8]) -> Option<Found>
+    ensures { Checks card.now table.now pending.now result }
 {
-    let found = endpoint::sound::check(config, sizes, events, requester, waiting, table, pending);
-    let profile = found.profile;
-    let mode = profile.mode;
-    let wiring = wiring(config, line, wire, mode);
-    if !found.sound {
-        return Checked {
-            sound: false,
-            profile,
-            wiring,
-        };
+    let profile = endpoint::sound::check(&card.function, table, pending)?;
+    let wiring = wiring(card, profile.mode);
+    if card.wire == wiring.due() {
+        return Some(Found { profile, wiring });
     }
-    let due = wiring.due();
-    Checked {
-        sound: wire == due,
-        profile,
-        wiring,
-    }
+    None
 }

@@ -1,14 +1,13 @@
 -- A row's call by the program, and the step of the case that it is. Assumes nothing.
 use mathlib.Core.Path.{◌≡◌, refl, sym, ap, ap₂, ◌∙◌}
-use mathlib.Core.Bool.{Bool, ◌&&◌}
+use mathlib.Core.Bool.{Bool, false, ◌&&◌}
+use mathlib.Core.Logic.{◌⊎◌, inl, inr}
 use mathlib.Core.List.{List, [], ◌∷◌, ◌++◌}
 use Prim.Native.Nat.{ℕ, suc, ◌+◌, ◌-◌, ◌*◌, ◌/◌, ◌≤◌, ◌<◌, min}
 use native.Mathlib.Omega.{arith}
-use lib.Dec.{eqb}
 use lib.ListN.{length, take, drop}
 use lib.Seq.{drop-drop, take_at, length-take-le}
 use borrow.Author.Tests.{eq-eqb, ne_eqb}
-use Rattle.words.proofs.BoolLaws.{by_test}
 use Rattle.words.proofs.PartLaws.{clipped_part, written-part, equal-bytes}
 use Rattle.model.specs.declared.Answer.{Answer}
 use Rattle.model.specs.declared.Card.{Card}
@@ -20,15 +19,17 @@ use Rattle.model.proofs.Calls.StartCalls.{start_buffers}
 use Rattle.model.proofs.Calls.PlayLaws.{right_anywhere, played-does, played-lends}
 use Rattle.card.specs.declared.outcome.Outcome.{Outcome}
 use Rattle.card.specs.Outcomes.{after}
+use Rattle.cases.specs.declared.row.Kind.{Kind}
+use Rattle.cases.specs.declared.row.Kind.TheVariants.{New, Start, Read, Write, BarRead, BarWrite, Event, Line, Image, Keep, Compare}
 use Rattle.cases.specs.declared.row.Row.{Row}
 use Rattle.cases.specs.declared.run.Run.{Run}
 use Rattle.cases.specs.declared.calls.Called.{Called}
 use Rattle.cases.specs.Rows.{row_of}
-use Rattle.cases.specs.Steps.{operation_by, room_by, operation_over, operation_of, room_of, step_of, row_steps, case_steps}
+use Rattle.cases.specs.Steps.{is_new, operation_by, room_by, operation_over, operation_of, room_of, step_of, row_steps, case_steps}
 use Rattle.cases.specs.Runs.{table_of, pending_of, seen, judged, with_buffers}
 use Rattle.cases.specs.Runs as Runs
 
--- ---- a call by its letter
+-- ---- a call by its kind
 
 -- a call that is lent no output
 pub no_output : (o : Outcome) (t p out : List ℕ) (r : Calls.Outcome) → length out ≤ 0 → after o t p [] ≡ r → after o t p out ≡ r
@@ -41,16 +42,76 @@ pub start_anywhere : (card : Card) (t p config sizes : List ℕ) (events request
 start_anywhere card t p config sizes events requester = start_buffers zero_function card.function t p _
 
 -- the output that a row's call is lent
-lent_all : (k : ℕ) (bytes : List ℕ) (row : Row) (l : List ℕ) → take (room_by k row) l ≡ lent_output (operation_by k bytes row (take (room_by k row) l))
+lent_all : (k : Kind) (bytes : List ℕ) (row : Row) (l : List ℕ) → take (room_by k row) l ≡ lent_output (operation_by k bytes row (take (room_by k row) l))
 unfolding operation_by room_by
-lent_all k bytes row l =
-    by_test (eqb k 115) (λ a. rw a)
-    (λ a. by_test (eqb k 114) (λ b. rw (a, b))
-    (λ b. by_test (eqb k 82) (λ d. rw (a, b, d))
-    (λ d. by_test (eqb k 119) (λ e. rw (a, b, d, e))
-    (λ e. by_test (eqb k 87) (λ f. rw (a, b, d, e, f))
-    (λ f. by_test (eqb k 108) (λ g. rw (a, b, d, e, f, g))
-    (λ g. by_test (eqb k 101) (λ h. rw (a, b, d, e, f, g, h)) (λ h. rw (a, b, d, e, f, g, h))))))))
+lent_all New bytes row l = refl
+lent_all Start bytes row l = refl
+lent_all Read bytes row l = refl
+lent_all Write bytes row l = refl
+lent_all BarRead bytes row l = refl
+lent_all BarWrite bytes row l = refl
+lent_all Event bytes row l = refl
+lent_all Line bytes row l = refl
+lent_all Image bytes row l = refl
+lent_all Keep bytes row l = refl
+lent_all Compare bytes row l = refl
+
+-- of no other kind, a save
+pub saves : (k : Kind) (bytes : List ℕ) (row : Row) (out : List ℕ) → (k ≡ Start → ⊥) → (k ≡ Read → ⊥) → (k ≡ BarRead → ⊥) → (k ≡ Write → ⊥)
+    → (k ≡ BarWrite → ⊥) → (k ≡ Line → ⊥) → (k ≡ Event → ⊥) → operation_by k bytes row out ≡ Calls.call (Calls.save out)
+unfolding operation_by
+saves Start bytes row out a b c d e f g = absurd (a refl)
+saves Read bytes row out a b c d e f g = absurd (b refl)
+saves BarRead bytes row out a b c d e f g = absurd (c refl)
+saves Write bytes row out a b c d e f g = absurd (d refl)
+saves BarWrite bytes row out a b c d e f g = absurd (e refl)
+saves Line bytes row out a b c d e f g = absurd (f refl)
+saves Event bytes row out a b c d e f g = absurd (g refl)
+saves New bytes row out a b c d e f g = refl
+saves Image bytes row out a b c d e f g = refl
+saves Keep bytes row out a b c d e f g = refl
+saves Compare bytes row out a b c d e f g = refl
+
+pub no_room_of : (k : Kind) (row : Row) → (k ≡ Start) ⊎ ((k ≡ Read) ⊎ (k ≡ BarRead)) → 0 ≡ room_by k row
+unfolding room_by
+no_room_of k row (inl e) = rw e
+no_room_of k row (inr (inl e)) = rw e
+no_room_of k row (inr (inr e)) = rw e
+
+pub packet_room : (k : Kind) (row : Row) → (k ≡ Write) ⊎ ((k ≡ BarWrite) ⊎ (k ≡ Line)) → 64 ≡ room_by k row
+unfolding room_by
+packet_room k row (inl e) = rw e
+packet_room k row (inr (inl e)) = rw e
+packet_room k row (inr (inr e)) = rw e
+
+-- of no other kind, as many bytes as the row says
+pub own_room : (k : Kind) (row : Row) → (k ≡ Start → ⊥) → (k ≡ Read → ⊥) → (k ≡ BarRead → ⊥) → (k ≡ Write → ⊥) → (k ≡ BarWrite → ⊥) → (k ≡ Line → ⊥)
+    → row.b ≡ room_by k row
+unfolding room_by
+own_room Start row a b c d e f = absurd (a refl)
+own_room Read row a b c d e f = absurd (b refl)
+own_room BarRead row a b c d e f = absurd (c refl)
+own_room Write row a b c d e f = absurd (d refl)
+own_room BarWrite row a b c d e f = absurd (e refl)
+own_room Line row a b c d e f = absurd (f refl)
+own_room Event row a b c d e f = refl
+own_room New row a b c d e f = refl
+own_room Image row a b c d e f = refl
+own_room Keep row a b c d e f = refl
+own_room Compare row a b c d e f = refl
+
+pub calls-card : (k : Kind) → (k ≡ New → ⊥) → is_new k ≡ false
+calls-card New h = absurd (h refl)
+calls-card Start h = refl
+calls-card Read h = refl
+calls-card Write h = refl
+calls-card BarRead h = refl
+calls-card BarWrite h = refl
+calls-card Event h = refl
+calls-card Line h = refl
+calls-card Image h = refl
+calls-card Keep h = refl
+calls-card Compare h = refl
 
 -- ---- a call over parts of the buffers: t and p of their bytes, n of the output, which become t', p' and out'
 

@@ -3,6 +3,10 @@ use Rattle.std.specs.Prelude.{cond, List, ℕ, ◌+◌, ◌-◌, ◌*◌, ◌%�
 use Rattle.words.specs.Bytes.{byte}
 use Rattle.model.specs.declared.Answer.{Answer}
 use Rattle.model.specs.declared.Answer.TheVariants.{Refused, Done, Value, Sent, Held, Merged, Lost}
+use Rattle.cases.specs.declared.row.Kind.{Kind}
+use Rattle.cases.specs.declared.row.Kind.TheVariants.{New, Start, Read, Write, BarRead, BarWrite, Event, Line, Image, Keep, Compare}
+use Rattle.cases.specs.declared.row.Shown.{Shown}
+use Rattle.cases.specs.declared.row.Shown.TheVariants.{Nothing, State, Verdict}
 use Rattle.cases.specs.declared.row.Row.{Row}
 
 -- a hexadecimal digit in ASCII; below the digits 0
@@ -25,28 +29,39 @@ hex4 l i = hex2 l i * 256 + hex2 l (i + 2)
 abbrev pub hex8 : List ℕ → ℕ → ℕ
 hex8 l i = hex4 l i * 65536 + hex4 l (i + 4)
 
+-- what a row does, by its letter: n, s, r, w, R, W, e, l, k, c, or an image
+abbrev pub kind_of : ℕ → Kind
+kind_of letter =
+    cond (eqb letter 110) New
+    (cond (eqb letter 115) Start
+    (cond (eqb letter 114) Read
+    (cond (eqb letter 119) Write
+    (cond (eqb letter 82) BarRead
+    (cond (eqb letter 87) BarWrite
+    (cond (eqb letter 101) Event (cond (eqb letter 108) Line (cond (eqb letter 107) Keep (cond (eqb letter 99) Compare Image)))))))))
+
+-- what is shown after it: s, v, or nothing
+abbrev pub shown_of : ℕ → Shown
+shown_of letter = cond (eqb letter 115) State (cond (eqb letter 118) Verdict Nothing)
+
+-- the answer by its letter: s, h, m, l, v, r, or d
+abbrev pub answer_by : (letter value refusal : ℕ) → Answer
+answer_by letter value refusal =
+    cond (eqb letter 115) Sent
+    (cond (eqb letter 104) Held
+    (cond (eqb letter 109) Merged
+    (cond (eqb letter 108) Lost (cond (eqb letter 118) (Value value) (cond (eqb letter 114) (Refused refusal) Done)))))
+
 abbrev pub row_of : List ℕ → Row
 row_of l =
     record {
       number = decimal2 l 0;
-      kind = byte l 3;
+      kind = kind_of (byte l 3);
       a = hex4 l 9;
       b = decimal3 l 14;
       c = hex8 l 18;
-      answer = byte l 27;
-      d = decimal2 l 32;
+      answer = answer_by (byte l 27) (hex8 l 18) (decimal2 l 32);
       place = hex4 l 35;
       size = decimal3 l 40;
-      shown = byte l 44;
+      shown = shown_of (byte l 44);
     }
-
--- the answer by its letter: s, h, m, l, v, r, or d
-abbrev pub answer_by : ℕ → Row → Answer
-answer_by letter r =
-    cond (eqb letter 115) Sent
-    (cond (eqb letter 104) Held
-    (cond (eqb letter 109) Merged
-    (cond (eqb letter 108) Lost (cond (eqb letter 118) (Value r.c) (cond (eqb letter 114) (Refused r.d) Done)))))
-
-abbrev pub answer_of : Row → Answer
-answer_of r = answer_by r.answer r

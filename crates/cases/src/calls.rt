@@ -7,7 +7,7 @@ ghost use Rattle.card.specs.Outcomes.{after};
 ghost use Rattle.cases.specs.Steps.{config_at, operation_over, room_of};
 ghost use Rattle.cases.specs.Runs.{Calls};
 
-use crate::row::Row;
+use crate::row::{Kind, Row};
 use crate::run::Run;
 use card::outcome::Outcome;
 use model::Card;
@@ -20,15 +20,10 @@ const REQUESTER: u16 = 0x0100;
 fn room(row: Row) -> usize
     ensures { result ≡ room_of row }
 {
-    let letter = row.kind;
-    match letter {
-        b's' => 0,
-        b'r' => 0,
-        b'R' => 0,
-        b'w' => 64,
-        b'W' => 64,
-        b'l' => 64,
-        _ => row.b as usize,
+    match row.kind {
+        Kind::Start | Kind::Read | Kind::BarRead => 0,
+        Kind::Write | Kind::BarWrite | Kind::Line => 64,
+        _ => row.b as usize, // casts that widen stay: with `From` the proofs of four functions here did not close
     }
 }
 
@@ -56,16 +51,22 @@ fn perform(
     ensures { after result table.new pending.new out.new
         ≡ operate (world_of card table.old pending.old) (operation_over bytes.now row out.old) }
 {
-    let letter = row.kind;
     let width = (row.b % 256) as u8;
-    match letter {
-        b's' => start(row, bytes, table, pending),
-        b'r' => config_access::config_read::config_read(card, table, pending, row.a, width),
-        b'R' => bar_access::bar_read::bar_read(card, table, pending, 0, row.a as u32, width),
-        b'w' => config_access::config_write::config_write(
+    match row.kind {
+        Kind::Start => start(row, bytes, table, pending),
+        Kind::Read => config_access::config_read::config_read(card, table, pending, row.a, width),
+        Kind::BarRead => bar_access::bar_read::bar_read(
+            card,
+            table,
+            pending,
+            0,
+            row.a as u32,
+            width,
+        ),
+        Kind::Write => config_access::config_write::config_write(
             card, table, pending, row.a, width, row.c, out,
         ),
-        b'W' => bar_access::bar_write::bar_write(
+        Kind::BarWrite => bar_access::bar_write::bar_write(
             card,
             table,
             pending,
@@ -75,13 +76,14 @@ fn perform(
             row.c as u64,
             out,
         ),
-        b'l' => interrupt::line::line(card, table, pending, row.b != 0, out),
-        b'e' => interrupt::event::event(card, table, pending, row.a, out),
+        Kind::Line => interrupt::line::line(card, table, pending, row.b != 0, out),
+        Kind::Event => interrupt::event::event(card, table, pending, row.a, out),
         _ => snapshot::save::save(card, table, pending, out),
     }
 }
 
-// What a call gave, with the output and its length, and the run with the card and the buffers after it.
+// What a call gave, with the output and its length, and the run with the card and the buffers after it. The output is an array, of which a call is
+// lent `room` bytes: memory is fixed.
 #[derive(Clone, Copy)]
 pub struct Called {
     pub run: Run,
@@ -110,13 +112,13 @@ pub fn call(run: Run, row: Row, bytes: &[u8]) -> Called
         &mut pending[..p],
         &mut out[..n],
     );
-    let mut after = run;
-    let next = outcome.card;
-    after.card = next;
-    after.table = table;
-    after.pending = pending;
     Called {
-        run: after,
+        run: Run {
+            card: outcome.card,
+            table,
+            pending,
+            ..run
+        },
         outcome,
         out,
         room: n,

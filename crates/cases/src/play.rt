@@ -2,11 +2,10 @@
 ghost use Rattle.std.specs.Prelude.{◌≡◌, true, ◌≤◌};
 ghost use Rattle.model.specs.Play.{played, played_all};
 ghost use Rattle.model.specs.Play as Play;
-ghost use Rattle.cases.specs.Rows.{answer_of};
 ghost use Rattle.cases.specs.Steps.{bytes_at, operation_of, step_of, row_steps, case_count};
 ghost use Rattle.cases.specs.Runs.{seen};
 
-use crate::row::Row;
+use crate::row::{Kind, Row};
 use crate::run::{Run, judge};
 use crate::table::ROW_COUNT;
 use card::answer::same_answer;
@@ -17,7 +16,7 @@ const FRESH: [u8; 300] = [0xee; 300];
 
 // A row's call, printed, and compared with what it should give.
 fn play_call(rt: &impl Print, run: Run, row: Row, bytes: &[u8]) -> Run
-    ensures { seen result ≡ played (seen run) (Play.does (operation_of bytes.now row) (bytes_at bytes.now row.place row.size) (answer_of row)) }
+    ensures { seen result ≡ played (seen run) (Play.does (operation_of bytes.now row) (bytes_at bytes.now row.place row.size) row.answer) }
 {
     crate::print_call(rt, row, bytes);
     let called = crate::calls::call(run, row, bytes);
@@ -26,9 +25,8 @@ fn play_call(rt: &impl Print, run: Run, row: Row, bytes: &[u8]) -> Run
     let out = called.out;
     let n = called.room;
     let sent = part(&out, 0, n);
-    let answer = crate::row::answer_of(row);
     let expected = part(bytes, row.place as usize, row.size as usize);
-    let good = same_answer(given, answer)
+    let good = same_answer(given, row.answer)
         & (o.count == expected.len())
         & words::compare::is_over(sent, expected, part(&FRESH, 0, n));
     crate::print_result(rt, row, o, sent, good);
@@ -42,11 +40,13 @@ fn play_call(rt: &impl Print, run: Run, row: Row, bytes: &[u8]) -> Run
 fn play(rt: &impl Print, run: Run, row: Row, bytes: &[u8]) -> Run
     ensures { seen result ≡ played (seen run) (step_of bytes.now row) }
 {
-    if row.kind == b'n' {
-        crate::print_title(rt, row, bytes);
-        return crate::run::lend(run, row.b);
+    match row.kind {
+        Kind::New => {
+            crate::print_title(rt, row, bytes);
+            crate::run::lend(run, row.b)
+        }
+        _ => play_call(rt, run, row, bytes),
     }
-    play_call(rt, run, row, bytes)
 }
 
 // One step, if it belongs to the case.
@@ -67,11 +67,9 @@ pub fn case(rt: &impl Print, number: u8) -> bool
     let rows = table.rows;
     let bytes = table.bytes;
     let mut run = crate::run::new();
-    let mut i = 0;
-    while i < ROW_COUNT {
+    for i in 0..ROW_COUNT {
         let row = crate::row::row_at(&rows, i);
         run = play_row(rt, run, number, row, &bytes);
-        i += 1;
     }
     run.good
 }

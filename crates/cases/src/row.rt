@@ -1,25 +1,80 @@
 // A row of the table, read from its characters.
 ghost use Rattle.std.specs.Prelude.{◌≡◌, ◌+◌, ◌*◌, ◌≤◌, ◌<◌, length, take, drop};
-ghost use Rattle.cases.specs.Rows.{digit_of, decimal2, decimal3, hex2, hex4, hex8, row_of, answer_of};
+ghost use Rattle.cases.specs.Rows.{digit_of, decimal2, decimal3, hex2, hex4, hex8, kind_of, shown_of, answer_by, row_of};
 ghost use Rattle.cases.specs.Steps.{row_count};
 
 use crate::table::ROW_COUNT;
 use model::Answer;
 use words::parts::part;
 
+// What a row does: it lends new buffers, or calls the card.
+#[derive(Clone, Copy, Debug, PartialEq, Eq)]
+pub enum Kind {
+    New,
+    Start,
+    Read,
+    Write,
+    BarRead,
+    BarWrite,
+    Event,
+    Line,
+    Image,
+    Keep,
+    Compare,
+}
+
+impl From<u8> for Kind {
+    ghost from_gives = { λ letter kind. kind ≡ kind_of letter };
+
+    fn from(letter: u8) -> Self {
+        match letter {
+            b'n' => Kind::New,
+            b's' => Kind::Start,
+            b'r' => Kind::Read,
+            b'w' => Kind::Write,
+            b'R' => Kind::BarRead,
+            b'W' => Kind::BarWrite,
+            b'e' => Kind::Event,
+            b'l' => Kind::Line,
+            b'k' => Kind::Keep,
+            b'c' => Kind::Compare,
+            _ => Kind::Image,
+        }
+    }
+}
+
+// What is shown after a call.
+#[derive(Clone, Copy, Debug, PartialEq, Eq)]
+pub enum Shown {
+    Nothing,
+    State,
+    Verdict,
+}
+
+impl From<u8> for Shown {
+    ghost from_gives = { λ letter shown. shown ≡ shown_of letter };
+
+    fn from(letter: u8) -> Self {
+        match letter {
+            b's' => Shown::State,
+            b'v' => Shown::Verdict,
+            _ => Shown::Nothing,
+        }
+    }
+}
+
 // What `table.rt` says of the columns.
 #[derive(Clone, Copy)]
 pub struct Row {
     pub number: u8,
-    pub kind: u8,
+    pub kind: Kind,
     pub a: u16,
     pub b: u16,
     pub c: u32,
-    pub answer: u8,
-    pub d: u8,
+    pub answer: Answer,
     pub place: u16,
     pub size: u16,
-    pub shown: u8,
+    pub shown: Shown,
 }
 
 // A hexadecimal digit; below the digits 0.
@@ -72,22 +127,37 @@ fn hex8(s: &[u8], at: usize) -> u32
     (hex4(s, at) as u32) * 65536 + (hex4(s, at + 4) as u32)
 }
 
+// The answer that a call should give, by its letter, the value that it reads and the number that refuses it.
+fn answer_by(letter: u8, value: u32, refusal: u8) -> Answer
+    ensures { result ≡ answer_by letter value refusal }
+{
+    match letter {
+        b's' => Answer::Sent,
+        b'h' => Answer::Held,
+        b'm' => Answer::Merged,
+        b'l' => Answer::Lost,
+        b'v' => Answer::Value(u64::from(value)),
+        b'r' => Answer::Refused(refusal),
+        _ => Answer::Done,
+    }
+}
+
 // The row that a slice starts with.
 fn row_of(s: &[u8]) -> Row
     requires { 45 ≤ length s.now }
     ensures { result ≡ row_of s.now }
 {
+    let c = hex8(s, 18);
     Row {
         number: decimal2(s, 0),
-        kind: s[3],
+        kind: Kind::from(s[3]),
         a: hex4(s, 9),
         b: decimal3(s, 14),
-        c: hex8(s, 18),
-        answer: s[27],
-        d: decimal2(s, 32),
+        c,
+        answer: answer_by(s[27], c, decimal2(s, 32)),
         place: hex4(s, 35),
         size: decimal3(s, 40),
-        shown: s[44],
+        shown: Shown::from(s[44]),
     }
 }
 
@@ -97,20 +167,4 @@ pub fn row_at(rows: &[u8; 45 * ROW_COUNT], i: usize) -> Row
     ensures { result ≡ row_of (take 45 (drop (45 * i) rows.now)) }
 {
     row_of(part(rows, 45 * i, 45))
-}
-
-// The answer that a row's call should give.
-pub fn answer_of(row: Row) -> Answer
-    ensures { result ≡ answer_of row }
-{
-    let letter = row.answer;
-    match letter {
-        b's' => Answer::Sent,
-        b'h' => Answer::Held,
-        b'm' => Answer::Merged,
-        b'l' => Answer::Lost,
-        b'v' => Answer::Value(row.c as u64),
-        b'r' => Answer::Refused(row.d),
-        _ => Answer::Done,
-    }
 }

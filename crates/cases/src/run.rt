@@ -6,6 +6,7 @@ ghost use Rattle.cases.specs.Runs.{seen, judged};
 use model::{Card, Function};
 
 // The card, N, the table and pending array in buffers that serve every case, and whether every call so far gave what it should.
+// The buffers are arrays, of which a call is lent a part: memory is fixed.
 #[derive(Clone, Copy)]
 pub struct Run {
     pub card: Card,
@@ -40,31 +41,24 @@ pub fn new() -> Run
     }
 }
 
-fn at_most_ten(n: u16) -> u8
-    ensures { result ≡ min n 10 }
-{
-    if n <= 10 {
-        return n as u8;
-    }
-    10
-}
-
 // New buffers for so many vectors, and at most ten.
 pub fn lend(run: Run, vectors: u16) -> Run
     ensures { seen result ≡ played (seen run) (lends (min vectors 10)) }
 {
-    let mut after = run;
-    after.vectors = at_most_ten(vectors);
-    after.table = [0xee; 160];
-    after.pending = [0xee; 8];
-    after
+    Run {
+        vectors: vectors.min(10) as u8,
+        table: [0xee; 160],
+        pending: [0xee; 8],
+        ..run
+    }
 }
 
 // The run after a call that gave what it should, or not.
 pub fn judge(run: Run, good: bool) -> Run
     ensures { result ≡ judged run good }
 {
-    let mut after = run;
-    after.good = run.good & good;
-    after
+    Run {
+        good: run.good & good,
+        ..run
+    }
 }

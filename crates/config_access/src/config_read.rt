@@ -6,8 +6,8 @@ ghost use Rattle.card.specs.Outcomes.{after};
 ghost use Rattle.card.specs.Running.{Running};
 
 use crate::bounds::bad_config;
-use card::outcome::{Outcome, accepted, refused};
-use card::sound::check;
+use card::outcome::{Outcome, accepted, refuse};
+use model::refusal::Refusal;
 use model::{Answer, Card, Profile};
 use registers::config::config_value;
 
@@ -24,7 +24,7 @@ pub fn config_read_core(
     ensures { after result table.now pending.now [] ≡ performed (world_of card table.now pending.now) (config_read offset width) }
 {
     if bad_config(offset, width) {
-        return refused(card, 3);
+        return refuse(card, Refusal::ConfigAccess);
     }
     let value = config_value(
         &card.function.config,
@@ -41,19 +41,8 @@ pub fn config_read_core(
 pub fn config_read(card: Card, table: &[u8], pending: &[u8], offset: u16, width: u8) -> Outcome
     ensures { after result table.now pending.now [] ≡ step (world_of card table.now pending.now) (config_read offset width) }
 {
-    let checked = check(
-        &card.function.config,
-        &card.function.sizes,
-        card.function.events,
-        card.function.requester,
-        card.function.line,
-        card.function.waiting,
-        card.wire,
-        table,
-        pending,
-    );
-    if !checked.sound {
-        return refused(card, 1);
-    }
-    config_read_core(card, checked.profile, table, pending, offset, width)
+    let Some(found) = card::sound::check(&card, table, pending) else {
+        return refuse(card, Refusal::NotSound);
+    };
+    config_read_core(card, found.profile, table, pending, offset, width)
 }

@@ -5,7 +5,8 @@ ghost use Rattle.model.specs.Calls.{performed, step, config_write};
 ghost use Rattle.card.specs.Outcomes.{after};
 ghost use Rattle.card.specs.Running.{Running, Wires};
 
-use card::outcome::{Outcome, refused};
+use card::outcome::{Outcome, refuse};
+use model::refusal::Refusal;
 use model::{Card, Profile};
 use wire::Wiring;
 
@@ -27,7 +28,7 @@ pub fn config_write_core(
         ≡ performed (world_of card table.now pending.old) (config_write offset width value out.old) }
 {
     if crate::bounds::bad_config(offset, width) {
-        return refused(card, 3);
+        return refuse(card, Refusal::ConfigAccess);
     }
     let s = k.shape;
     let form = k.form;
@@ -62,21 +63,10 @@ pub fn config_write(
     ensures { after result table.now pending.new out.new
         ≡ step (world_of card table.now pending.old) (config_write offset width value out.old) }
 {
-    let checked = card::sound::check(
-        &card.function.config,
-        &card.function.sizes,
-        card.function.events,
-        card.function.requester,
-        card.function.line,
-        card.function.waiting,
-        card.wire,
-        table,
-        pending,
-    );
-    if !checked.sound {
-        return refused(card, 1);
-    }
-    let k = checked.profile;
-    let w = checked.wiring;
+    let Some(found) = card::sound::check(&card, table, pending) else {
+        return refuse(card, Refusal::NotSound);
+    };
+    let k = found.profile;
+    let w = found.wiring;
     config_write_core(card, k, w, table, pending, offset, width, value, out)
 }

@@ -9,16 +9,9 @@ ghost use Rattle.model.specs.Sound.{given_of, waits_below, is_empty, sound_endpo
 ghost use Rattle.registers.specs.Bounds.{MsiBounds};
 ghost use Rattle.vectors.specs.Given.{Profiled};
 ghost use Rattle.release.specs.Owed.{Lent};
-ghost use Rattle.endpoint.specs.Parts.{each_of, Checked};
+ghost use Rattle.endpoint.specs.Parts.{Checked};
 
-use model::{Mode, Profile, Shape};
-
-// Whether a function is sound, and what its configuration says.
-#[derive(Clone, Copy)]
-pub struct Soundness {
-    pub sound: bool,
-    pub profile: Profile,
-}
+use model::{Function, Mode, Profile, Shape};
 
 // No MSI waiting bit at or above 2^Capable, and none where there is no MSI.
 fn msi_below(waiting: u32, s: Shape) -> bool
@@ -32,28 +25,26 @@ fn msi_below(waiting: u32, s: Shape) -> bool
     (waiting as u64) < 1u64 << count
 }
 
-fn waits_below(waiting: u32, s: Shape, pending: &[u8]) -> bool
+fn waits_below(f: &Function, s: Shape, pending: &[u8]) -> bool
     requires { (s.msi.capable ≤ 5) × (length pending.now ≡ pending_bytes s) }
-    ensures { (c t : List ℕ) → each_of c waiting (λ f. result ≡ waits_below s (endpoint_of f t pending.now)) }
+    ensures { (t : List ℕ) → result ≡ waits_below s (endpoint_of f.now t pending.now) }
 {
-    if !msi_below(waiting, s) {
+    if !msi_below(f.waiting, s) {
         return false;
     }
-    let n = s.msix.vectors;
-    release::pending::none_beyond(pending, n)
+    release::pending::none_beyond(pending, s.msix.vectors)
 }
 
 // No open vector waits.
-fn nothing_owed(config: &[u8; 256], waiting: u32, k: Profile, table: &[u8], pending: &[u8]) -> bool
-    requires { Profiled config.now k × Lent table.now pending.now × (length table.now ≡ table_bytes k.shape) }
-    ensures { each_of config.now waiting (λ f. result ≡ is_empty (owed_now k.shape (endpoint_of f table.now pending.now))) }
+fn nothing_owed(f: &Function, k: Profile, table: &[u8], pending: &[u8]) -> bool
+    requires { Profiled f.now.config k × Lent table.now pending.now × (length table.now ≡ table_bytes k.shape) }
+    ensures { result ≡ is_empty (owed_now k.shape (endpoint_of f.now table.now pending.now)) }
 {
-    let mode = k.mode;
-    match mode {
+    match k.mode {
         Mode::Pin => true,
-        Mode::Msi => crate::sweep::msi_owed(config, waiting, k.shape, k.form) == 0,
+        Mode::Msi => crate::sweep::msi_owed(f, k.shape, k.form) == 0,
         Mode::Msix => {
-            if vectors::msix::msix_enabled(config, k.shape) {
+            if vectors::msix::msix_enabled(&f.config, k.shape) {
                 return release::msix::none_owed(table, pending);
             }
             true
@@ -62,61 +53,46 @@ fn nothing_owed(config: &[u8; 256], waiting: u32, k: Profile, table: &[u8], pend
 }
 
 // What is left to check of a function that a start accepts.
-fn is_clean(config: &[u8; 256], waiting: u32, k: Profile, table: &[u8], pending: &[u8]) -> bool
-    requires { MsiBounds k.shape × Fit k.shape (length table.now) (length pending.now) × Profiled config.now k }
-    ensures { each_of config.now waiting
-        (λ f. start_refusal (given_of (endpoint_of f table.now pending.now)) ≡ 0
-        → result ≡ sound_endpoint k.shape (endpoint_of f table.now pending.now)) }
+fn is_clean(f: &Function, k: Profile, table: &[u8], pending: &[u8]) -> bool
+    requires { MsiBounds k.shape × Fit k.shape (length table.now) (length pending.now) × Profiled f.now.config k }
+    ensures { start_refusal (given_of (endpoint_of f.now table.now pending.now)) ≡ 0
+        → result ≡ sound_endpoint k.shape (endpoint_of f.now table.now pending.now) }
 {
     let s = k.shape;
-    if !registers::clean::config_clean(config, s, k.form) {
+    if !registers::clean::config_clean(&f.config, s, k.form) {
         return false;
     }
-    let n = s.msix.vectors;
-    if !registers::table::table_clean(table, n) {
+    if !registers::table::table_clean(table, s.msix.vectors) {
         return false;
     }
-    if !waits_below(waiting, s, pending) {
+    if !waits_below(f, s, pending) {
         return false;
     }
-    nothing_owed(config, waiting, k, table, pending)
+    nothing_owed(f, k, table, pending)
 }
 
-// A function with its lent buffers: whether it is sound, the wire aside, and what its configuration says.
-pub fn check<'a>(
-    config: &'a [u8; 256],
-    sizes: &'a [u32; 6],
-    events: u16,
-    requester: u16,
-    waiting: u32,
-    table: &[u8],
-    pending: &[u8],
-) -> Soundness
-    ensures { (line : Bool) → Checked (function_of config.now sizes.now events requester line waiting) table.now pending.now result }
+// What the configuration of a sound function with these lent buffers says, the wire aside; none if it is not sound.
+pub fn check(f: &Function, table: &[u8], pending: &[u8]) -> Option<Profile>
+    ensures { Checked f.now table.now pending.now result }
 {
-    let started = layout::start::check_start(
-        config,
-        sizes,
-        events,
-        requester,
+    let Ok(started) = layout::start::check_start(
+        &f.config,
+        &f.sizes,
+        f.events,
+        f.requester,
         table.len(),
         pending.len(),
-    );
-    let shape = started.shape;
-    let form = started.form;
-    if started.refusal != 0 {
-        let profile = Profile {
-            shape,
-            form,
-            mode: Mode::Pin,
-        };
-        return Soundness {
-            sound: false,
-            profile,
-        };
+    ) else {
+        return None;
+    };
+    let mode = vectors::mode::mode(&f.config, started.shape);
+    let profile = Profile {
+        shape: started.shape,
+        form: started.form,
+        mode,
+    };
+    if is_clean(f, profile, table, pending) {
+        return Some(profile);
     }
-    let mode = vectors::mode::mode(config, shape);
-    let profile = Profile { shape, form, mode };
-    let sound = is_clean(config, waiting, profile, table, pending);
-    Soundness { sound, profile }
+    None
 }

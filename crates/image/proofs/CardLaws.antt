@@ -9,7 +9,7 @@ use Rattle.words.specs.Bytes.{bytes_of, word32, words32}
 use Rattle.words.proofs.ByteLaws.{length_join32, word_drop}
 use Rattle.model.specs.declared.Card.{Card}
 use Rattle.model.specs.World.{world_of}
-use Rattle.model.specs.Image.{mark, flags, card_bytes, image_of, function_in, function_from}
+use Rattle.model.specs.Image.{mark, flags, card_bytes, image_of}
 use Rattle.image.specs.Layout.{number_bytes, image_size}
 
 -- ---- a card's bytes
@@ -48,11 +48,6 @@ image-size card table pending z c =
     simp length-append (omega (arith, simp length-append at start-length, card-length card table pending z c))
 
 -- ---- what they hold
-
--- an image from its first byte on
-pub from_start : (l : List ℕ) → function_from 0 l ≡ function_in l
-unfolding function_from
-from_start l = refl
 
 -- the six sizes from place `at` on
 pub six_sizes : (s : List ℕ) (at : ℕ)

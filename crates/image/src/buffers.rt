@@ -12,6 +12,6 @@ pub fn copy_buffers(image: &[u8], table: &mut [u8], pending: &mut [u8])
 {
     let start = Image::TABLE;
     let middle = start + table.len();
-    words::put::put_slice(table, &image[start..middle]);
-    words::put::put_slice(pending, &image[middle..]);
+    table.copy_from_slice(&image[start..middle]);
+    pending.copy_from_slice(&image[middle..]);
 }

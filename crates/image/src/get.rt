@@ -12,16 +12,7 @@ use model::{Card, Function};
 pub fn is_marked(image: &[u8]) -> bool
     ensures { result ≡ same (take 3 image.now) mark }
 {
-    if image.len() < Image::VERSION_AT {
-        return false;
-    }
-    if image[0] != Image::MARK[0] {
-        return false;
-    }
-    if image[1] != Image::MARK[1] {
-        return false;
-    }
-    image[2] == Image::MARK[2]
+    image.starts_with(&Image::MARK)
 }
 
 pub fn version(image: &[u8]) -> u16
@@ -31,7 +22,7 @@ pub fn version(image: &[u8]) -> u16
     words::get::word16(image, Image::VERSION_AT)
 }
 
-// The 256 configuration bytes from place `at` on.
+// The 256 configuration bytes from place `at` on: an array of zeros, filled byte by byte, as document 01 names it by place.
 pub fn config_at(s: &[u8], at: usize) -> [u8; 256]
     requires { at + 256 ≤ length s.now }
     ensures { result ≡ part at 256 s.now }
@@ -43,7 +34,7 @@ pub fn config_at(s: &[u8], at: usize) -> [u8; 256]
     config
 }
 
-// The six sizes from place `at` on.
+// The six sizes from place `at` on. An `array::from_fn` was tried: its contract did not give that each of the six is read from the same slice.
 fn sizes_at(s: &[u8], at: usize) -> [u32; 6]
     requires { at + 24 ≤ length s.now }
     ensures { result ≡ words32 6 (drop at s.now) }
@@ -58,42 +49,43 @@ fn sizes_at(s: &[u8], at: usize) -> [u32; 6]
     ]
 }
 
-// Of an image's bytes from offset `first` on: the flags, of which bit 0 is the line and bit 1 the wire.
-fn line_from(s: &[u8], first: usize) -> bool
-    requires { (first ≤ 5) × (6 ≤ length s.now + first) }
-    ensures { result ≡ bit (byte s.now (5 - first)) 0 }
-{
-    s[Image::FLAGS - first] % 2 == 1
+// Bit 0 of a card's flags is the line, bit 1 the wire.
+#[derive(Clone, Copy)]
+struct Flags(u8);
+
+impl Flags {
+    fn line(self) -> bool
+        ensures { result ≡ bit self.0 0 }
+    {
+        self.0 % 2 == 1
+    }
+
+    fn wire(self) -> bool
+        ensures { result ≡ bit self.0 1 }
+    {
+        self.0 / 2 % 2 == 1
+    }
+
+    // No other flag is set.
+    fn are_clean(self) -> bool
+        ensures { result ≡ ltb self.0 4 }
+    {
+        self.0 < 4
+    }
 }
 
-fn wire_from(s: &[u8], first: usize) -> bool
-    requires { (first ≤ 5) × (6 ≤ length s.now + first) }
-    ensures { result ≡ bit (byte s.now (5 - first)) 1 }
+// What an image's bytes from offset FIRST on hold.
+fn function_from<const FIRST: usize>(s: &[u8]) -> Function
+    requires { (FIRST ≤ 5) × (294 ≤ length s.now + FIRST) }
+    ensures { result ≡ function_from FIRST s.now }
 {
-    s[Image::FLAGS - first] / 2 % 2 == 1
-}
-
-// No other flag is set.
-fn clean_from(s: &[u8], first: usize) -> bool
-    requires { (first ≤ 5) × (6 ≤ length s.now + first) }
-    ensures { result ≡ ltb (byte s.now (5 - first)) 4 }
-{
-    s[Image::FLAGS - first] < 4
-}
-
-fn function_from(s: &[u8], first: usize) -> Function
-    requires { (first ≤ 5) × (294 ≤ length s.now + first) }
-    ensures { result ≡ function_from first s.now }
-{
-    let config = config_at(s, Image::CONFIG - first);
-    let sizes = sizes_at(s, Image::SIZES - first);
     Function {
-        config,
-        sizes,
-        events: words::get::word16(s, Image::EVENTS - first),
-        requester: words::get::word16(s, Image::REQUESTER - first),
-        line: line_from(s, first),
-        waiting: words::get::word32(s, Image::WAITING - first),
+        config: config_at(s, Image::CONFIG - FIRST),
+        sizes: sizes_at(s, Image::SIZES - FIRST),
+        events: words::get::word16(s, Image::EVENTS - FIRST),
+        requester: words::get::word16(s, Image::REQUESTER - FIRST),
+        line: Flags(s[Image::FLAGS - FIRST]).line(),
+        waiting: words::get::word32(s, Image::WAITING - FIRST),
     }
 }
 
@@ -102,21 +94,21 @@ pub fn card_function(image: &[u8]) -> Function
     requires { 294 ≤ length image.now }
     ensures { result ≡ function_in image.now }
 {
-    function_from(image, 0)
+    function_from::<0>(image)
 }
 
 pub fn wire(image: &[u8]) -> bool
     requires { 6 ≤ length image.now }
     ensures { result ≡ bit (byte image.now 5) 1 }
 {
-    wire_from(image, 0)
+    Flags(image[Image::FLAGS]).wire()
 }
 
 pub fn flags_clean(image: &[u8]) -> bool
     requires { 6 ≤ length image.now }
     ensures { result ≡ ltb (byte image.now 5) 4 }
 {
-    clean_from(image, 0)
+    Flags(image[Image::FLAGS]).are_clean()
 }
 
 // What a card's bytes hold: those of its image from the flags to the last configuration byte.
@@ -124,10 +116,10 @@ pub fn card_of(bytes: &[u8]) -> Card
     requires { 289 ≤ length bytes.now }
     ensures { result ≡ card_in bytes.now }
 {
-    let function = function_from(bytes, Image::FLAGS);
+    let function = function_from::<{ Image::FLAGS }>(bytes);
     Card {
         function,
-        wire: wire_from(bytes, Image::FLAGS),
+        wire: Flags(bytes[0]).wire(),
     }
 }
 
@@ -135,5 +127,5 @@ pub fn card_flags_clean(bytes: &[u8]) -> bool
     requires { 1 ≤ length bytes.now }
     ensures { result ≡ ltb (byte bytes.now 0) 4 }
 {
-    clean_from(bytes, Image::FLAGS)
+    Flags(bytes[0]).are_clean()
 }

@@ -11,29 +11,16 @@ ghost use Rattle.image.specs.Layout.{number_bytes, image_size};
 use crate::format::Image;
 use model::Card;
 
-// A flag as a number.
-fn flag(set: bool) -> u8
-    ensures { (result ≡ of_bool set) × (result ≤ 1) }
-{
-    set as u8
-}
-
 // Flags, event count, requester ID and MSI waiting bits.
 fn numbers(card: Card) -> [u8; Image::NUMBERS]
     ensures { result ≡ number_bytes card }
 {
     let f = card.function;
-    [
-        flag(f.line) + 2 * flag(card.wire),
-        (f.events % 256) as u8,
-        (f.events / 256 % 256) as u8,
-        (f.requester % 256) as u8,
-        (f.requester / 256 % 256) as u8,
-        (f.waiting % 256) as u8,
-        (f.waiting / 256 % 256) as u8,
-        (f.waiting / 256 / 256 % 256) as u8,
-        (f.waiting / 256 / 256 / 256 % 256) as u8,
-    ]
+    let [e0, e1] = f.events.to_le_bytes();
+    let [r0, r1] = f.requester.to_le_bytes();
+    let [w0, w1, w2, w3] = f.waiting.to_le_bytes();
+    let flags = u8::from(f.line) + 2 * u8::from(card.wire);
+    [flags, e0, e1, r0, r1, w0, w1, w2, w3]
 }
 
 // The six sizes, one behind another.
@@ -42,9 +29,8 @@ fn put_sizes(out: &mut [u8], sizes: [u32; 6]) -> usize
     ensures { Wrote (join (bytes_of 4) sizes) out.old result out.new }
 {
     let mut at: usize = 0;
-    for i in 0..6 {
-        let size = sizes[i];
-        at += words::put::put_le(&mut out[at..], 4, size as u64);
+    for size in &sizes {
+        at += words::put::put_le(&mut out[at..], 4, u64::from(*size));
     }
     at
 }

@@ -1,5 +1,5 @@
 -- An event by the code and by the definition. Assumes nothing.
-use mathlib.Core.Path.{◌≡◌, sym, ap, ◌∙◌}
+use mathlib.Core.Path.{◌≡◌, refl, sym, ap, ◌∙◌}
 use mathlib.Core.Bool.{Bool, true, false}
 use mathlib.Core.List.{List, []}
 use mathlib.Core.Option.{Option, none, some}
@@ -27,8 +27,7 @@ use Rattle.model.proofs.Vectors.PacketLaws.{message-length}
 use Rattle.model.proofs.Vectors.EventLaws.{vector_counted}
 use Rattle.model.proofs.Calls.EventCalls as EventCalls
 use Rattle.model.proofs.Calls.EventCalls.{event-room, raised_lost, raised_vector}
-use Rattle.vectors.specs.declared.event.Meant.{Meant}
-use Rattle.vectors.specs.declared.event.Meant.TheVariants.{Nothing, One}
+use Rattle.std.specs.Prelude as Prelude
 use Rattle.vectors.specs.Mapping.{vector_in}
 use Rattle.card.specs.declared.outcome.Outcome.{Outcome}
 use Rattle.card.specs.Outcomes.{refused_with, accepted_with, after}
@@ -100,6 +99,11 @@ pub fate_outcome : (card : Card) (x : Fate) (g : Function) (r : Outcome) (t p ou
     → r ≡ accepted_with (record { function = g; wire = card.wire }) x.answer x.count → after r t p out ≡ after (fated card x) t p out
 fate_outcome card x g r t p out eg er = rw (er, eg)
 
+-- no vector is meant
+pub none_of : (m : Prelude.Option Vector) → ((v : Vector) → m ≡ Prelude.Some v → ⊥) → m ≡ Prelude.None
+none_of Prelude.None f = refl
+none_of (Prelude.Some v) f = absurd (f v refl)
+
 -- ---- the call on a sound card
 
 module _ (card : Card) (t p out : List ℕ) (k : Profile) (r : Running card t p k) (e : ℕ) (h : e < card.function.events) where
@@ -113,17 +117,17 @@ module _ (card : Card) (t p out : List ℕ) (k : Profile) (r : Running card t p 
   event_is x q = ap (λ (y : Raised). raise_of on y out) (sym q) ∙ sym (event-room on e out r.is_sound h)
 
   -- what the code finds that the event means
-  module _ (m : Meant) (em : vector_in m ≡ vector_of k.mode k.shape (registers on.endpoint) e) where
+  module _ (m : Prelude.Option Vector) (em : vector_in m ≡ vector_of k.mode k.shape (registers on.endpoint) e) where
     meant : (x : Option ℕ) → vector_in m ≡ x → vector_of k.mode (shape on.endpoint) (registers on.endpoint) e ≡ x
     meant x q = rw (← r.shaped) (sym em ∙ q)
 
-    pub event-lost : m ≡ Nothing → (a : Outcome) → a ≡ accepted_with card Lost 0 → after a t p out ≡ performed on (event e out)
+    pub event-lost : m ≡ Prelude.None → (a : Outcome) → a ≡ accepted_with card Lost 0 → after a t p out ≡ performed on (event e out)
     unfolding vector_in
     event-lost q a ea =
         ap (λ (x : Outcome). after x t p out) ea ∙ quiet on on.endpoint Lost out
         ∙ event_is _ (raised_lost k.mode (shape on.endpoint) on.endpoint e mode-now (meant none (ap vector_in q)))
 
-    module _ (v : Vector) (q : m ≡ One v) where
+    module _ (v : Vector) (q : m ≡ Prelude.Some v) where
       this : vector_of k.mode (shape on.endpoint) (registers on.endpoint) e ≡ some v.0
       unfolding vector_in
       this = meant (some v.0) (ap vector_in q)

@@ -5,7 +5,8 @@ ghost use Rattle.model.specs.Calls.{performed, step, line};
 ghost use Rattle.card.specs.Outcomes.{after};
 ghost use Rattle.card.specs.Running.{Running, Wires};
 
-use card::outcome::{Outcome, accepted, refused};
+use card::outcome::{Outcome, accepted, refuse};
+use model::refusal::Refusal;
 use model::{Answer, Card, Profile};
 use wire::Wiring;
 
@@ -26,7 +27,7 @@ pub fn line_core(
     let wired = w.set_line(level);
     let owed = wired.owed;
     if out.len() < wire::owed_size(owed) {
-        return refused(card, 6);
+        return refuse(card, Refusal::Room);
     }
     let count = wire::put_owed(out, owed, card.function.requester, w.pin);
     let function = card::changed::with_line(card.function, level);
@@ -37,21 +38,16 @@ pub fn line_core(
 pub fn line(card: Card, table: &[u8], pending: &[u8], level: bool, out: &mut [u8]) -> Outcome
     ensures { after result table.now pending.now out.new ≡ step (world_of card table.now pending.now) (line level out.old) }
 {
-    let checked = card::sound::check(
-        &card.function.config,
-        &card.function.sizes,
-        card.function.events,
-        card.function.requester,
-        card.function.line,
-        card.function.waiting,
-        card.wire,
+    let Some(found) = card::sound::check(&card, table, pending) else {
+        return refuse(card, Refusal::NotSound);
+    };
+    line_core(
+        card,
+        found.profile,
+        found.wiring,
         table,
         pending,
-    );
-    if !checked.sound {
-        return refused(card, 1);
-    }
-    let k = checked.profile;
-    let w = checked.wiring;
-    line_core(card, k, w, table, pending, level, out)
+        level,
+        out,
+    )
 }

@@ -7,11 +7,12 @@ ghost use Rattle.card.specs.Outcomes.{after};
 ghost use Rattle.interrupt.specs.Raises.{fated, each_waiting};
 
 use crate::event::Fate;
-use card::outcome::{Outcome, accepted, refused};
+use card::outcome::{Outcome, accepted, refuse};
+use model::refusal::Refusal;
 use model::{Answer, Card, Profile, Vector};
 use vectors::count::vector_count;
 use vectors::mode::is_pin;
-use vectors::waiting::{clear_bit, waits};
+use vectors::waiting::{change_bit, waits};
 
 // Withdraws vector v of a sound card with these waiting bits: its bit of the mechanism in force is cleared, and the answer
 // says whether it was set. Nothing is sent.
@@ -22,50 +23,24 @@ pub fn withdraw_core(waiting: u32, k: Profile, pending: &mut [u8], v: Vector) ->
 {
     let mode = k.mode;
     if is_pin(mode) {
-        return Fate {
-            answer: Answer::Refused(7),
-            count: 0,
-            waiting,
-        };
+        return Fate::refused(Refusal::PinInForce, waiting);
     }
     let n = v.0 as usize;
     if vector_count(mode, k.shape) <= n {
-        return Fate {
-            answer: Answer::Refused(2),
-            count: 0,
-            waiting,
-        };
+        return Fate::refused(Refusal::Event, waiting);
     }
     let was_set = waits(mode, waiting, pending, v);
-    let left = clear_bit(mode, k.shape, waiting, pending, v);
-    Fate {
-        answer: Answer::Value(was_set as u64),
-        count: 0,
-        waiting: left,
-    }
+    let left = change_bit::<false>(mode, k.shape, waiting, pending, v);
+    Fate::quiet(Answer::Value(was_set as u64), left)
 }
 
 pub fn withdraw(card: Card, table: &[u8], pending: &mut [u8], v: Vector) -> Outcome
     ensures { after result table.now pending.new [] ≡ step (world_of card table.now pending.old) (withdraw v.0) }
 {
-    let checked = card::sound::check(
-        &card.function.config,
-        &card.function.sizes,
-        card.function.events,
-        card.function.requester,
-        card.function.line,
-        card.function.waiting,
-        card.wire,
-        table,
-        pending,
-    );
-    if !checked.sound {
-        return refused(card, 1);
-    }
-    let k = checked.profile;
-    let fate = withdraw_core(card.function.waiting, k, pending, v);
+    let Some(found) = card::sound::check(&card, table, pending) else {
+        return refuse(card, Refusal::NotSound);
+    };
+    let fate = withdraw_core(card.function.waiting, found.profile, pending, v);
     let function = card::changed::with_waiting(card.function, fate.waiting);
-    let wire = card.wire;
-    let answer = fate.answer;
-    accepted(Card { function, wire }, answer, fate.count)
+    accepted(Card { function, ..card }, fate.answer, fate.count)
 }

@@ -1,17 +1,21 @@
--- The checks of a start: one law for each way out. Assumes nothing.
+-- Laws of the checks of a start. Assumes nothing.
 use mathlib.Core.Path.{◌≡◌, refl, sym, ap, ap₂, ◌∙◌}
-use mathlib.Core.Bool.{Bool, true, false, not, ◌&&◌, ◌||◌}
+use mathlib.Core.Bool.{Bool, true, false, not, ◌||◌}
 use mathlib.Core.List.{List, [], ◌∷◌}
 use Prim.Native.Nat.{ℕ, ◌+◌, ◌%◌, ◌≤◌, ◌<◌}
 use borrow.Author.Tests.{eq-eqb, ne_eqb, lt-ltb, le-ltb}
-use lib.Dec.{ltb, eqb}
+use lib.Dec.{ltb}
 use lib.ListN.{length}
-use Rattle.words.specs.Lists.{all, overlap, first_of}
+use Rattle.words.specs.Lists.{all, first_of}
 use Rattle.model.specs.Capabilities.{capabilities, listed, broken, with_id}
-use Rattle.model.specs.Shape.{form_of, msi_present, msix_present, table_bytes, pending_bytes, shape_of}
-use Rattle.model.specs.Start.{Given, bad_header, misplaced, bad_structures, outside, bad_regions, bad_events, bad_requester, bad_buffers, twice, start_refusal}
+use Rattle.model.specs.Shape.{form_of, msi_present, msix_present, shape_of}
+use Rattle.model.specs.Start.{Given, bad_header, misplaced, bad_structures, bad_regions, bad_events, bad_requester, bad_buffers, twice, start_refusal}
 use Rattle.model.specs.declared.Shape.{Shape}
-use Rattle.layout.specs.Checks.{apart, bad_msi, bad_msix, bad_pair, listed_twice}
+use mathlib.Core.Option as m
+use native.Mathlib.Omega.{arith}
+use Rattle.std.specs.Prelude.{Option, Some, None}
+use Rattle.words.specs.Lists.{keep}
+use Rattle.layout.specs.Checks.{apart, bad_msi, bad_msix, bad_pair, again, listed_twice}
 use Rattle.layout.specs.Places.{found_of, listing_in, listing_of}
 use Rattle.layout.specs.declared.capability.Listing.{Listing}
 
@@ -42,59 +46,42 @@ module _ (s : Shape) where
   msix_there e = rw (ne_eqb _ _ e)
 
 -- check 13 from its three parts
-module _ (places : List ℕ) (s : Shape) (n : ℕ) (e : n ≡ (form_of s).size) where
-  parts : (bad_msi places s n || bad_msix places s || bad_pair s n) ≡ bad_structures places s
-  unfolding bad_msi bad_msix bad_pair bad_structures
-  parts = rw e
+pub parts : (places : List ℕ) (s : Shape) (n : ℕ) → n ≡ (form_of s).size → (bad_msi places s n || bad_msix places s || bad_pair s n) ≡ bad_structures places s
+unfolding bad_msi bad_msix bad_pair bad_structures
+parts places s n e = rw e
 
-  pub part_1 : bad_msi places s n ≡ true → true ≡ bad_structures places s
-  part_1 h = rw h at parts
-
-  pub part_2 : bad_msi places s n ≡ false → bad_msix places s ≡ true → true ≡ bad_structures places s
-  part_2 h i = rw (h, i) at parts
-
-  pub part_3 : bad_msi places s n ≡ false → bad_msix places s ≡ false → bad_pair s n ≡ bad_structures places s
-  part_3 h i = rw (h, i) at parts
-
--- check 14 where MSI-X is present, of the lengths n and m of table and pending array
-module _ (sizes : List ℕ) (s : Shape) (n m : ℕ) (e : n ≡ table_bytes s) (d : m ≡ pending_bytes s) (p : s.msix.at ≡ 0 → ⊥) where
-  regions : (outside sizes s.msix.table n || outside sizes s.msix.pending m
-      || (eqb s.msix.table.bar s.msix.pending.bar && overlap s.msix.table.at n s.msix.pending.at m))
-      ≡ bad_regions sizes s
-  unfolding bad_regions
-  regions = rw (e, d, msix_there s p)
-
-  pub region_1 : outside sizes s.msix.table n ≡ true → true ≡ bad_regions sizes s
-  region_1 h = rw h at regions
-
-  pub region_2 : outside sizes s.msix.table n ≡ false → outside sizes s.msix.pending m ≡ true → true ≡ bad_regions sizes s
-  region_2 h i = rw (h, i) at regions
-
-  pub region_3 : outside sizes s.msix.table n ≡ false → outside sizes s.msix.pending m ≡ false
-      → (s.msix.table.bar ≡ s.msix.pending.bar → ⊥) → false ≡ bad_regions sizes s
-  region_3 h i j = rw (h, i, ne_eqb _ _ j) at regions
-
-  pub region_4 : outside sizes s.msix.table n ≡ false → outside sizes s.msix.pending m ≡ false
-      → s.msix.table.bar ≡ s.msix.pending.bar → overlap s.msix.table.at n s.msix.pending.at m ≡ bad_regions sizes s
-  region_4 h i j = rw (h, i, eq-eqb _ _ j) at regions
-
--- check 12 from what the walk found
-found-length : (l : List ℕ) → (found_of l).times ≡ length l
+-- checks 11 and 12 from what the walk found
+again-length : (l : List ℕ) → again (found_of l) ≡ ltb 1 (length l)
 unfolding found_of
-found-length [] = refl
-found-length (a ∷ l) = refl
+again-length [] = refl
+again-length (a ∷ []) = refl
+again-length (a ∷ b ∷ l) = sym (lt-ltb 1 (length (a ∷ b ∷ l)) (omega arith))
 
-pub twice-listed : (c : List ℕ) (l : Listing) → l ≡ listing_of c → listed_twice l ≡ twice c (listed (capabilities c))
-unfolding listed_twice listing_of listing_in twice
-twice-listed c l e =
-    let places : List ℕ = listed (capabilities c) in
-    ap (λ (l : Listing). ltb 1 l.msi.times || ltb 1 l.msix.times) e
-    ∙ ap₂ (λ (m x : ℕ). ltb 1 m || ltb 1 x) (found-length (with_id c places 0x05)) (found-length (with_id c places 0x11))
+abbrev pub lost : Option Listing → Bool
+lost None = true
+lost (Some l) = false
 
--- check 11
-pub broken-listed : (c : List ℕ) (l : Listing) → l ≡ listing_of c → l.broken ≡ broken (capabilities c)
-unfolding listing_of listing_in
-broken-listed c l e = ap (λ (l : Listing). l.broken) e
+abbrev pub twofold : Option Listing → Bool
+twofold None = false
+twofold (Some l) = listed_twice l
+
+lost_in : (c : List ℕ) (w : m.Option (List ℕ)) → lost (listing_in c w) ≡ broken w
+unfolding listing_in broken
+lost_in c m.none = refl
+lost_in c (m.some l) = refl
+
+twofold_in : (c : List ℕ) (w : m.Option (List ℕ)) → twofold (listing_in c w) ≡ twice c (listed w)
+unfolding listing_in twice listed with_id keep
+twofold_in c m.none = refl
+twofold_in c (m.some l) = ap₂ ◌||◌ (again-length (with_id c l 0x05)) (again-length (with_id c l 0x11))
+
+pub broken-listed : (c : List ℕ) (o : Option Listing) → o ≡ listing_of c → lost o ≡ broken (capabilities c)
+unfolding listing_of
+broken-listed c o e = ap lost e ∙ lost_in c (capabilities c)
+
+twice-listed : (c : List ℕ) (o : Option Listing) → o ≡ listing_of c → twofold o ≡ twice c (listed (capabilities c))
+unfolding listing_of
+twice-listed c o e = ap twofold e ∙ twofold_in c (capabilities c)
 
 -- check 16
 pub requester-good : (r : ℕ) → r ≤ 65535 → r % 8 ≡ 0 → bad_requester r ≡ false
@@ -118,11 +105,11 @@ rows_by g isBroken isTwice s =
     ∷ (17, bad_buffers s g.table_length g.pending_length)
     ∷ []
 
-abbrev pub rows_of : Given → Listing → Shape → List (ℕ × Bool)
-rows_of g l s = rows_by g l.broken (listed_twice l) s
+abbrev pub rows_of : Given → Option Listing → Shape → List (ℕ × Bool)
+rows_of g o s = rows_by g (lost o) (twofold o) s
 
-pub rows_are : (g : Given) (l : Listing) (s : Shape) → l ≡ listing_of g.config → s ≡ shape_of g.config → start_refusal g ≡ first_of (rows_of g l s)
+pub rows_are : (g : Given) (o : Option Listing) (s : Shape) → o ≡ listing_of g.config → s ≡ shape_of g.config → start_refusal g ≡ first_of (rows_of g o s)
 unfolding start_refusal
-rows_are g l s le se =
+rows_are g o s le se =
     ap (λ (s : Shape). first_of (rows_by g (broken (capabilities g.config)) (twice g.config (listed (capabilities g.config))) s)) (sym se)
-    ∙ ap₂ (λ (b t : Bool). first_of (rows_by g b t s)) (sym (broken-listed g.config l le)) (sym (twice-listed g.config l le))
+    ∙ ap₂ (λ (b t : Bool). first_of (rows_by g b t s)) (sym (broken-listed g.config o le)) (sym (twice-listed g.config o le))

@@ -13,7 +13,7 @@ use Rattle.words.proofs.ListLaws.{Holds, holds_nil, holds_cons}
 use Rattle.model.specs.Capabilities.{pointer, walk_step, walk, capabilities, listed, with_id}
 use Rattle.model.proofs.Shapes.CapabilityLaws.{first-listed}
 use Rattle.layout.specs.Places.{found_of}
-use Rattle.layout.specs.Shapes.{Place}
+use Rattle.layout.specs.Shapes.{Place, Placed}
 
 pointer_place : (p : ℕ) → p < 256 → Place (pointer p)
 unfolding pointer
@@ -43,11 +43,12 @@ module _ (c : List ℕ) (bytes : (i : ℕ) → byte c i < 256) where
   listed_place =
       cond_elim (λ (r : Option (List ℕ)). Holds Place (listed r)) (bit (byte c 6) 4) (λ _. walk_place 48 (byte c 0x34) (bytes 0x34)) (λ _. holds_nil Place)
 
-  -- the first capability with an ID, or 0
-  pub first_place : (id : ℕ) → Place (found_of (with_id c (listed (capabilities c)) id)).first
+  -- the first capability with an ID
+  pub first_place : (id : ℕ) → Placed (found_of (with_id c (listed (capabilities c)) id))
   unfolding found_of
   first_place id = go (with_id c (listed (capabilities c)) id) refl
     where
-      go : (l : List ℕ) → with_id c (listed (capabilities c)) id ≡ l → Place (found_of l).first
-      go [] e = record { aligned = refl; below = omega arith }
-      go (a ∷ l) e = listed_place a (first-listed c (listed (capabilities c)) id a l e)
+      go : (l : List ℕ) → with_id c (listed (capabilities c)) id ≡ l → Placed (found_of l)
+      go [] e = tt
+      go (a ∷ []) e = listed_place a (first-listed c (listed (capabilities c)) id a [] e)
+      go (a ∷ b ∷ l) e = listed_place a (first-listed c (listed (capabilities c)) id a (b ∷ l) e)

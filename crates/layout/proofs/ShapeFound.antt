@@ -2,12 +2,10 @@
 use mathlib.Core.Path.{◌≡◌, refl, ap, ap₂, ◌∙◌}
 use mathlib.Core.Bool.{Bool}
 use mathlib.Core.List.{List, [], ◌∷◌}
-use Prim.Native.Nat.{ℕ, suc, ◌+◌, ◌*◌, ◌/◌, ◌%◌, ◌≤◌, ◌<◌}
+use Prim.Native.Nat.{ℕ, ◌+◌, ◌*◌, ◌/◌, ◌%◌, ◌≤◌, ◌<◌}
 use native.Mathlib.Nat.{div-one}
 use native.Mathlib.Omega.{arith}
 use lib.Dec.{eqb}
-use lib.ListN.{length}
-use borrow.Author.Tests.{ne_eqb}
 use Rattle.words.specs.Bits.{bit, field}
 use Rattle.words.specs.Bytes.{byte, bit_at}
 use Rattle.words.proofs.ByteLaws.{word32-lt}
@@ -17,8 +15,12 @@ use Rattle.model.specs.declared.MsiShape.{MsiShape}
 use Rattle.model.specs.declared.MsixShape.{MsixShape}
 use Rattle.model.specs.declared.Region.{Region}
 use Rattle.model.specs.declared.Shape.{Shape}
-use Rattle.layout.specs.Places.{found_of, listing_in, listing_of}
-use Rattle.layout.specs.Shapes.{msi_found, msix_found, Place, Bounded}
+use mathlib.Core.Option as m
+use Rattle.std.specs.Prelude.{Option, unwrap_or}
+use Rattle.words.specs.Lists.{keep}
+use Rattle.layout.specs.Places.{found_of, listing, listing_in, listing_of}
+use Rattle.layout.specs.Shapes.{msi_found, msix_found, Placed, Bounded}
+use Rattle.layout.specs.declared.capability.Found.TheVariants.{Nowhere}
 use Rattle.layout.specs.declared.capability.Listing.{Listing}
 use Rattle.layout.proofs.Places.{first_place}
 
@@ -48,44 +50,66 @@ module _ (c : List ℕ) where
   -- ---- the first capability of an ID counts
 
   pub msi-first : (l : List ℕ) → msi_found c (found_of l) ≡ msi_of c l
-  unfolding msi_found found_of msi_of
+  unfolding found_of msi_of
   msi-first [] = refl
-  msi-first (a ∷ l) = rw (ne_eqb (suc (length l)) 0 (λ e. omega arith))
+  msi-first (a ∷ []) = refl
+  msi-first (a ∷ b ∷ l) = refl
 
   pub msix-first : (l : List ℕ) → msix_found c (found_of l) ≡ msix_of c l
-  unfolding msix_found found_of msix_of
+  unfolding found_of msix_of
   msix-first [] = refl
-  msix-first (a ∷ l) = rw (ne_eqb (suc (length l)) 0 (λ e. omega arith))
+  msix-first (a ∷ []) = refl
+  msix-first (a ∷ b ∷ l) = refl
 
-  pub shape_read : (l : Listing) (m : MsiShape) (x : MsixShape) → l ≡ listing_of c → m ≡ msi_found c l.msi → x ≡ msix_found c l.msix
-      → ◌≡◌ {A = Shape} (record { msi = m; msix = x }) (shape_of c)
-  unfolding listing_of listing_in shape_of shape_in
-  shape_read l m x e f g =
+  -- what a listing is taken to say
+  said : (w : m.Option (List ℕ)) → unwrap_or (listing_in c w) (listing Nowhere Nowhere) ≡ listing (found_of (with_id c (listed w) 0x05)) (found_of (with_id c (listed w) 0x11))
+  unfolding listing_in listed with_id keep found_of
+  said m.none = refl
+  said (m.some l) = refl
+
+  pub what_is_said : (o : Option Listing) (l : Listing) → o ≡ listing_of c → l ≡ unwrap_or o (listing Nowhere Nowhere)
+      → l ≡ listing (found_of (with_id c (listed (capabilities c)) 0x05)) (found_of (with_id c (listed (capabilities c)) 0x11))
+  unfolding listing_of
+  what_is_said o l e f = f ∙ ap (λ (o : Option Listing). unwrap_or o (listing Nowhere Nowhere)) e ∙ said (capabilities c)
+
+  pub shape_read : (o : Option Listing) (l : Listing) (m : MsiShape) (x : MsixShape) → o ≡ listing_of c → l ≡ unwrap_or o (listing Nowhere Nowhere)
+      → m ≡ msi_found c l.msi → x ≡ msix_found c l.msix → ◌≡◌ {A = Shape} (record { msi = m; msix = x }) (shape_of c)
+  unfolding shape_of shape_in
+  shape_read o l m x e u f g =
       let places : List ℕ = listed (capabilities c) in
+      let h = what_is_said o l e u in
       ap₂ (λ (m : MsiShape) (x : MsixShape). record { msi = m; msix = x })
-      (f ∙ ap (λ (l : Listing). msi_found c l.msi) e ∙ msi-first (with_id c places 0x05))
-      (g ∙ ap (λ (l : Listing). msix_found c l.msix) e ∙ msix-first (with_id c places 0x11))
+      (f ∙ ap (λ (l : Listing). msi_found c l.msi) h ∙ msi-first (with_id c places 0x05))
+      (g ∙ ap (λ (l : Listing). msix_found c l.msix) h ∙ msix-first (with_id c places 0x11))
 
 -- ---- bounds
 
 module _ (c : List ℕ) (bytes : (i : ℕ) → byte c i < 256) where
   -- what the walk found stands at a place
-  pub found_places : (l : Listing) → l ≡ listing_of c → Place l.msi.first × Place l.msix.first
-  unfolding listing_of listing_in
-  found_places l e = rw e (first_place c bytes 0x05, first_place c bytes 0x11)
+  pub found_places : (o : Option Listing) (l : Listing) → o ≡ listing_of c → l ≡ unwrap_or o (listing Nowhere Nowhere) → Placed l.msi × Placed l.msix
+  found_places o l e u = rw (what_is_said c o l e u) (first_place c bytes 0x05, first_place c bytes 0x11)
 
-  msi_bounds : (l : List ℕ) → Place (found_of l).first → ((msi_of c l).at < 253) × ((msi_of c l).capable < 8)
+  msi_bounds : (l : List ℕ) → Placed (found_of l) → ((msi_of c l).at < 253) × ((msi_of c l).capable < 8)
   unfolding found_of msi_of no_msi msi_at field
   msi_bounds [] p = (omega arith, omega arith)
-  msi_bounds (a ∷ l) p = (p.below, omega arith)
+  msi_bounds (a ∷ []) p = (p.below, omega arith)
+  msi_bounds (a ∷ b ∷ l) p = (p.below, omega arith)
 
-  msix_bounds : (l : List ℕ) → Place (found_of l).first
+  msix_bounds : (l : List ℕ) → Placed (found_of l)
       → ((msix_of c l).at < 253) × ((msix_of c l).vectors ≤ 2048)
       × ((msix_of c l).table.bar < 8) × ((msix_of c l).table.at < 4294967296)
       × ((msix_of c l).pending.bar < 8) × ((msix_of c l).pending.at < 4294967296)
   unfolding found_of msix_of no_msix msix_at region_at field
   msix_bounds [] p = (omega arith, omega arith, omega arith, omega arith, omega arith, omega arith)
-  msix_bounds (a ∷ l) p = (
+  msix_bounds (a ∷ []) p = (
+    p.below,
+    omega (arith, bytes (a + 2)),
+    omega arith,
+    omega (arith, word32-lt c (a + 4) bytes),
+    omega arith,
+    omega (arith, word32-lt c (a + 8) bytes),
+  )
+  msix_bounds (a ∷ b ∷ l) p = (
     p.below,
     omega (arith, bytes (a + 2)),
     omega arith,

@@ -1,38 +1,25 @@
 -- The walk of the capability list, one pointer at a time. Assumes nothing.
 use mathlib.Core.Path.{◌≡◌, refl, sym, ap, ap₂, ◌∙◌}
-use mathlib.Core.Bool.{Bool, true, false, not, cond, ◌&&◌, true≢false, false≢true}
+use mathlib.Core.Bool.{Bool, true, false, cond, ◌&&◌, true≢false}
 use mathlib.Core.List.{List, [], ◌∷◌}
+use mathlib.Core.Logic.{◌⊎◌, inl, inr}
 use mathlib.Core.Option.{Option, none, some}
-use Prim.Native.Nat.{ℕ, zero, suc, ◌+◌, ◌-◌, ◌≤◌, ◌<◌}
+use Prim.Native.Nat.{ℕ, zero, suc, ◌+◌, ◌≤◌, ◌<◌}
 use native.Mathlib.Omega.{arith}
 use lib.Dec.{eqb, ltb}
-use lib.ListN.{length}
-use borrow.Author.Tests.{eq-eqb, ne_eqb, lt-ltb, le-ltb, eqb-true, eqb-false, ltb-true, ltb-false}
+use borrow.Author.Tests.{eq-eqb, ne_eqb, lt-ltb, le-ltb, eqb-true, eqb-false}
 use Rattle.words.specs.Lists.{keep, all}
 use Rattle.words.proofs.BoolLaws.{by_test}
 use Rattle.words.specs.Bits.{bit}
 use Rattle.words.specs.Bytes.{byte}
 use Rattle.model.specs.Capabilities.{pointer, walk_step, walk, capabilities, broken, listed, with_id}
-use Rattle.layout.specs.Places.{found, found_of, one_more, first_pointer, broken_listing, listing, listing_in, listing_of}
+use Rattle.std.specs.Prelude as std
+use Rattle.std.specs.Prelude.{Some, None}
+use Rattle.std.specs.Bool.{then_some}
+use Rattle.layout.specs.Places.{found_of, one_more, first_pointer, listing, listing_in, listing_of}
 use Rattle.layout.specs.declared.capability.Found.{Found}
+use Rattle.layout.specs.declared.capability.Found.TheVariants.{Nowhere, Again}
 use Rattle.layout.specs.declared.capability.Listing.{Listing}
-
--- ---- one more place, if its ID is the one looked for
-
-module _ (f : Found) (a : ℕ) where
-  pub missed : (hit : Bool) → not hit ≡ true → f ≡ cond hit (one_more f a) f
-  missed true e = absurd (false≢true e)
-  missed false e = refl
-
-  pub first : (hit : Bool) → not hit ≡ false → f.times ≡ 0 → found 1 a ≡ cond hit (one_more f a) f
-  unfolding one_more
-  first true e z = rw (eq-eqb _ _ z, z)
-  first false e z = absurd (true≢false e)
-
-  pub again : (hit : Bool) → not hit ≡ false → (f.times ≡ 0 → ⊥) → found (f.times + 1) f.first ≡ cond hit (one_more f a) f
-  unfolding one_more
-  again true e z = rw (ne_eqb _ _ z)
-  again false e z = absurd (true≢false e)
 
 pointer-zero : pointer 0 ≡ 0
 unfolding pointer
@@ -59,6 +46,10 @@ module _ (c : List ℕ) where
       go true = refl
       go false = refl
 
+  no_more : (k p : ℕ) → (pointer p ≡ 0 → ⊥) → (pointer p < 64) ⊎ (k ≡ 0) → walk c k p ≡ none
+  no_more k p h (inl l) = low k p h l
+  no_more k p h (inr z) = ap (λ (k : ℕ). walk c k p) z ∙ full p h
+
   more : (k p : ℕ) → (pointer p ≡ 0 → ⊥) → 64 ≤ pointer p
       → walk c (suc k) p ≡ walk_step false false (pointer p) (walk c k (byte c (pointer p + 1)))
   unfolding walk
@@ -78,15 +69,15 @@ module _ (c : List ℕ) where
   onward_of f [] = f
   onward_of f (a ∷ l) = onward_of (one_more f a) l
 
-  unfoldable pub onward : Found → Found → Option (List ℕ) → Listing
-  onward m x none = broken_listing
-  onward m x (some l) = listing false (onward_of m (with_id c l 0x05)) (onward_of x (with_id c l 0x11))
+  unfoldable pub onward : Found → Found → Option (List ℕ) → std.Option Listing
+  onward m x none = None
+  onward m x (some l) = Some (listing (onward_of m (with_id c l 0x05)) (onward_of x (with_id c l 0x11)))
 
-  onward_end : (m x : Found) → onward m x (some []) ≡ listing false m x
+  onward_end : (m x : Found) → onward m x (some []) ≡ Some (listing m x)
   unfolding onward onward_of with_id keep
   onward_end m x = refl
 
-  onward-broken : (m x : Found) → onward m x none ≡ broken_listing
+  onward-broken : (m x : Found) → onward m x none ≡ None
   unfolding onward
   onward-broken m x = refl
 
@@ -106,55 +97,52 @@ module _ (c : List ℕ) where
       ≡ onward (cond (eqb (byte c a) 0x05) (one_more m a) m) (cond (eqb (byte c a) 0x11) (one_more x a) x) w
   unfolding onward walk_step
   onward-more m x a none = refl
-  onward-more m x a (some l) = ap₂ (listing false) (onward_id m a l 0x05) (onward_id x a l 0x11)
+  onward-more m x a (some l) = ap₂ (λ (m x : Found). Some (listing m x)) (onward_id m a l 0x05) (onward_id x a l 0x11)
 
-  after_first : (k a : ℕ) (l : List ℕ) → onward_of (found (suc k) a) l ≡ found (suc k + length l) a
-  unfolding onward_of one_more
-  after_first k a [] = let e : suc k + 0 ≡ suc k = omega arith in rw e
-  after_first k a (b ∷ l) =
-      let e : suc k + 1 ≡ suc (suc k) = omega arith in
-      let d : suc k + suc (length l) ≡ suc (suc k) + length l = omega arith in
-      let z : eqb (suc k) 0 ≡ false = ne_eqb (suc k) 0 (omega arith) in
-      rw (z, e, d) (after_first (suc k) a l)
+  after_again : (a : ℕ) (l : List ℕ) → onward_of (Again a) l ≡ Again a
+  unfolding onward_of
+  after_again a [] = refl
+  after_again a (b ∷ l) = after_again a l
 
-  onward-all : (l : List ℕ) → onward_of (found 0 0) l ≡ found_of l
-  unfolding onward_of one_more found_of
+  onward-all : (l : List ℕ) → onward_of Nowhere l ≡ found_of l
+  unfolding onward_of found_of
   onward-all [] = refl
-  onward-all (a ∷ l) = after_first 0 a l ∙ ap (λ (n : ℕ). found n a) (let e : 1 + length l ≡ suc (length l) = omega arith in e)
+  onward-all (a ∷ []) = refl
+  onward-all (a ∷ b ∷ l) = after_again a l
 
   -- the whole walk, from nothing found
-  onward-first : (w : Option (List ℕ)) → onward (found 0 0) (found 0 0) w ≡ listing_in c w
-  unfolding onward listing_in broken listed with_id keep found_of
+  onward-first : (w : Option (List ℕ)) → onward Nowhere Nowhere w ≡ listing_in c w
+  unfolding onward listing_in
   onward-first none = refl
-  onward-first (some l) = ap₂ (listing false) (onward-all (with_id c l 0x05)) (onward-all (with_id c l 0x11))
+  onward-first (some l) = ap₂ (λ (m x : Found). Some (listing m x)) (onward-all (with_id c l 0x05)) (onward-all (with_id c l 0x11))
 
-  pub onward_list : onward (found 0 0) (found 0 0) (walk c 48 (first_pointer c)) ≡ listing_of c
+  pub onward_list : onward Nowhere Nowhere (walk c 48 (first_pointer c)) ≡ listing_of c
   unfolding listing_of
   onward_list = onward-first (walk c 48 (first_pointer c)) ∙ ap (listing_in c) from_first
 
--- ---- the ways of a turn with n places passed, the pointer p and what was found so far
+-- ---- the ways of a turn with room for k places, the pointer p and what was found so far
 
-module _ (c : List ℕ) (m x : Found) (n p at : ℕ) (l : Listing) (e : at ≡ pointer p) (to-do : onward c m x (walk c (48 - n) p) ≡ l) where
-  pub turn_ends : at ≡ 0 → listing false m x ≡ l
-  turn_ends z = sym (onward_end c m x) ∙ ap (onward c m x) (sym (ended c (48 - n) p (sym e ∙ z))) ∙ to-do
+module _ (c : List ℕ) (m x : Found) (k p at : ℕ) (l : std.Option Listing) (e : at ≡ pointer p) (to-do : onward c m x (walk c k p) ≡ l) where
+  turn_ends : at ≡ 0 → Some (listing m x) ≡ l
+  turn_ends z = sym (onward_end c m x) ∙ ap (onward c m x) (sym (ended c k p (sym e ∙ z))) ∙ to-do
 
-  turn_none : walk c (48 - n) p ≡ none → broken_listing ≡ l
+  turn_none : walk c k p ≡ none → None ≡ l
   turn_none h = sym (onward-broken c m x) ∙ ap (onward c m x) (sym h) ∙ to-do
 
-  pub turn_low : (at ≡ 0 → ⊥) → at < 64 → broken_listing ≡ l
-  turn_low z h = turn_none (low c (48 - n) p (λ q. z (e ∙ q)) (omega arith))
+  -- the end of the list, or one that is broken
+  pub turn_over : (pointer p < 64) ⊎ (k ≡ 0) → then_some (eqb at 0) (listing m x) ≡ l
+  turn_over h =
+      by_test (eqb at 0)
+      (λ t. rw t (turn_ends (eqb-true at 0 t)))
+      (λ t. rw t (turn_none (no_more c k p (λ q. eqb-false at 0 t (e ∙ q)) h)))
 
-  pub turn_full : (at ≡ 0 → ⊥) → n ≡ 48 → broken_listing ≡ l
-  turn_full z h = turn_none (ap (λ (k : ℕ). walk c (48 - k) p) h ∙ full c p (λ q. z (e ∙ q)))
-
-  pub turn_more : (at ≡ 0 → ⊥) → 64 ≤ at → n < 48
-      → onward c (cond (eqb (byte c at) 0x05) (one_more m at) m) (cond (eqb (byte c at) 0x11) (one_more x at) x) (walk c (48 - (n + 1)) (byte c (at + 1))) ≡ l
-  turn_more z h k =
-      let d : 48 - n ≡ suc (48 - (n + 1)) = omega arith in
-      sym (onward-more c m x at (walk c (48 - (n + 1)) (byte c (at + 1))))
+  pub turn_more : (j : ℕ) → k ≡ suc j → 64 ≤ at
+      → onward c (cond (eqb (byte c at) 0x05) (one_more m at) m) (cond (eqb (byte c at) 0x11) (one_more x at) x) (walk c j (byte c (at + 1))) ≡ l
+  turn_more j d h =
+      sym (onward-more c m x at (walk c j (byte c (at + 1))))
       ∙ ap (onward c m x)
-      (ap (λ (a : ℕ). walk_step false false a (walk c (48 - (n + 1)) (byte c (a + 1)))) e
-      ∙ sym (more c (48 - (n + 1)) p (λ q. z (e ∙ q)) (omega arith)) ∙ ap (λ (k : ℕ). walk c k p) (sym d))
+      (ap (λ (a : ℕ). walk_step false false a (walk c j (byte c (a + 1)))) e
+      ∙ sym (more c j p (λ q. omega arith) (omega arith)) ∙ ap (λ (k : ℕ). walk c k p) (sym d))
       ∙ to-do
 
 -- ---- a test of every listed place of a list that is not broken
@@ -173,41 +161,30 @@ all_none : (f : ℕ → Bool) (w : Option (List ℕ)) → w ≡ some [] → all 
 unfolding all listed
 all_none f w e = ap (λ (w : Option (List ℕ)). all f (listed w)) e
 
--- the ways of a turn with k places passed and the pointer p
-module _ (c : List ℕ) (f : ℕ → Bool) (k p at : ℕ) (whole : Bool) (e : at ≡ pointer p)
-    (sound : broken (walk c (48 - k) p) ≡ false) (to-do : all f (listed (walk c (48 - k) p)) ≡ whole) where
-  pub test_ends : at ≡ 0 → whole ≡ true
-  test_ends z = sym to-do ∙ all_none f (walk c (48 - k) p) (ended c (48 - k) p (sym e ∙ z))
+-- the ways of a turn with room for k places and the pointer p
+module _ (c : List ℕ) (f : ℕ → Bool) (k p : ℕ) (whole : Bool)
+    (sound : broken (walk c k p) ≡ false) (to-do : all f (listed (walk c k p)) ≡ whole) where
+  pub test_over : (pointer p < 64) ⊎ (k ≡ 0) → whole ≡ true
+  test_over h =
+      by_test (eqb (pointer p) 0)
+      (λ t. sym to-do ∙ all_none f (walk c k p) (ended c k p (eqb-true (pointer p) 0 t)))
+      (λ t. absurd (not_none (walk c k p) sound (no_more c k p (eqb-false (pointer p) 0 t) h)))
 
-  pub test_full : k ≡ 48 → whole ≡ true
-  test_full h =
-      by_test (eqb at 0) (λ t. test_ends (eqb-true at 0 t))
-      (λ t. absurd (not_none (walk c (48 - k) p) sound (ap (λ (k : ℕ). walk c (48 - k) p) h ∙ full c p (λ q. eqb-false at 0 t (e ∙ q)))))
+  module _ (j at : ℕ) (d : k ≡ suc j) (e : at ≡ pointer p) (h : 64 ≤ at) where
+    step_is : walk c k p ≡ walk_step false false at (walk c j (byte c (at + 1)))
+    step_is =
+        ap (λ (k : ℕ). walk c k p) d ∙ more c j p (λ q. omega arith) (omega arith)
+        ∙ ap (λ (a : ℕ). walk_step false false a (walk c j (byte c (a + 1)))) (sym e)
 
-  high : (at ≡ 0 → ⊥) → 64 ≤ pointer p
-  high z =
-      by_test (ltb (pointer p) 64)
-      (λ t. absurd (not_none (walk c (48 - k) p) sound (low c (48 - k) p (λ q. z (e ∙ q)) (ltb-true (pointer p) 64 t))))
-      (λ t. ltb-false (pointer p) 64 t)
+    both_parts : (broken (walk c j (byte c (at + 1))) ≡ false) × ((f at && all f (listed (walk c j (byte c (at + 1))))) ≡ whole)
+    both_parts =
+        let q = sound-step f at (walk c j (byte c (at + 1))) (sym (ap broken step_is) ∙ sound) in
+        (q.0, sym q.1 ∙ sym (ap (λ (w : Option (List ℕ)). all f (listed w)) step_is) ∙ to-do)
 
-  step_is : k < 48 → (at ≡ 0 → ⊥) → walk c (48 - k) p ≡ walk_step false false at (walk c (48 - (k + 1)) (byte c (at + 1)))
-  step_is h z =
-      let d : 48 - k ≡ suc (48 - (k + 1)) = omega arith in
-      ap (λ (k : ℕ). walk c k p) d ∙ more c (48 - (k + 1)) p (λ q. z (e ∙ q)) (high z)
-      ∙ ap (λ (a : ℕ). walk_step false false a (walk c (48 - (k + 1)) (byte c (a + 1)))) (sym e)
+    pub test_fails : f at ≡ false → whole ≡ false
+    test_fails t = sym both_parts.1 ∙ ap (λ (b : Bool). b && all f (listed (walk c j (byte c (at + 1))))) t
 
-  both_parts : k < 48 → (at ≡ 0 → ⊥)
-      → (broken (walk c (48 - (k + 1)) (byte c (at + 1))) ≡ false) × ((f at && all f (listed (walk c (48 - (k + 1)) (byte c (at + 1))))) ≡ whole)
-  both_parts h z =
-      let d = step_is h z in
-      let q = sound-step f at (walk c (48 - (k + 1)) (byte c (at + 1))) (sym (ap broken d) ∙ sound) in
-      (q.0, sym q.1 ∙ sym (ap (λ (w : Option (List ℕ)). all f (listed w)) d) ∙ to-do)
-
-  pub test_fails : k < 48 → (at ≡ 0 → ⊥) → f at ≡ false → whole ≡ false
-  test_fails h z t = sym (both_parts h z).1 ∙ ap (λ (b : Bool). b && all f (listed (walk c (48 - (k + 1)) (byte c (at + 1))))) t
-
-  pub test_more : k < 48 → (at ≡ 0 → ⊥) → f at ≡ true
-      → (broken (walk c (48 - (k + 1)) (byte c (at + 1))) ≡ false) × (all f (listed (walk c (48 - (k + 1)) (byte c (at + 1)))) ≡ whole)
-  test_more h z t =
-      let q = both_parts h z in
-      (q.0, sym (ap (λ (b : Bool). b && all f (listed (walk c (48 - (k + 1)) (byte c (at + 1))))) t) ∙ q.1)
+    pub test_more : f at ≡ true → (broken (walk c j (byte c (at + 1))) ≡ false) × (all f (listed (walk c j (byte c (at + 1)))) ≡ whole)
+    test_more t =
+        let q = both_parts in
+        (q.0, sym (ap (λ (b : Bool). b && all f (listed (walk c j (byte c (at + 1))))) t) ∙ q.1)

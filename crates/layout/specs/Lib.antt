@@ -1,3 +1,4 @@
 pub mod Places
 pub mod Shapes
 pub mod Checks
+pub mod Walk

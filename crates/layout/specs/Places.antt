@@ -1,36 +1,36 @@
 -- What the code's walk of the capability list finds, by the definitions of `model`. Assumes nothing.
-use Rattle.std.specs.Prelude.{Bool, true, cond, List, [], ◌∷◌, ℕ, suc, ◌+◌, eqb, length}
-use Rattle.std.proofs.Math.Option.{Option}
+use Rattle.std.specs.Prelude.{cond, List, [], ◌∷◌, ℕ, Option, Some, None}
+use Rattle.std.proofs.Math.Option as list
 use Rattle.words.specs.Bits.{bit}
 use Rattle.words.specs.Bytes.{byte}
-use Rattle.model.specs.Capabilities.{capabilities, broken, listed, with_id}
+use Rattle.model.specs.Capabilities.{capabilities, with_id}
 use Rattle.layout.specs.declared.capability.Found.{Found}
+use Rattle.layout.specs.declared.capability.Found.TheVariants.{Nowhere, Once, Again}
 use Rattle.layout.specs.declared.capability.Listing.{Listing}
 
-abbrev pub found : ℕ → ℕ → Found
-found times first = record { times = times; first = first }
-
--- of the places with one ID: how many there are, and the first
+-- of the places with one ID: whether there is one, or more, and the first
 unfoldable pub found_of : List ℕ → Found
-found_of [] = found 0 0
-found_of (a ∷ l) = found (suc (length l)) a
+found_of [] = Nowhere
+found_of (a ∷ []) = Once a
+found_of (a ∷ b ∷ l) = Again a
 
 -- with one more place behind them
-unfoldable pub one_more : Found → ℕ → Found
-one_more f a = found (f.times + 1) (cond (eqb f.times 0) a f.first)
+abbrev pub one_more : Found → ℕ → Found
+one_more Nowhere a = Once a
+one_more (Once b) a = Again b
+one_more (Again b) a = Again b
 
 -- where the walk begins: at byte 34h, if Status bit 4 says that there is a list
 unfoldable pub first_pointer : List ℕ → ℕ
 first_pointer c = cond (bit (byte c 6) 4) (byte c 0x34) 0
 
-abbrev pub listing : Bool → Found → Found → Listing
-listing broken msi msix = record { broken = broken; msi = msi; msix = msix }
+abbrev pub listing : Found → Found → Listing
+listing msi msix = record { msi = msi; msix = msix }
 
-abbrev pub broken_listing : Listing
-broken_listing = listing true (found 0 0) (found 0 0)
+-- a broken list has no listing
+unfoldable pub listing_in : List ℕ → list.Option (List ℕ) → Option Listing
+listing_in c list.none = None
+listing_in c (list.some l) = Some (listing (found_of (with_id c l 0x05)) (found_of (with_id c l 0x11)))
 
-unfoldable pub listing_in : List ℕ → Option (List ℕ) → Listing
-listing_in c w = listing (broken w) (found_of (with_id c (listed w) 0x05)) (found_of (with_id c (listed w) 0x11))
-
-unfoldable pub listing_of : List ℕ → Listing
+unfoldable pub listing_of : List ℕ → Option Listing
 listing_of c = listing_in c (capabilities c)

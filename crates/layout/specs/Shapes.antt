@@ -1,21 +1,32 @@
 -- A shape as the code finds it, and the bounds of a shape. Assumes nothing.
-use Rattle.std.specs.Prelude.{◌≡◌, cond, List, ℕ, ◌%◌, ◌≤◌, ◌<◌, eqb}
+use Rattle.std.specs.Prelude.{◌≡◌, List, ℕ, ◌%◌, ◌≤◌, ◌<◌}
 use Rattle.model.specs.Shape.{no_msi, msi_at, no_msix, msix_at}
 use Rattle.model.specs.declared.MsiShape.{MsiShape}
 use Rattle.model.specs.declared.MsixShape.{MsixShape}
 use Rattle.model.specs.declared.Shape.{Shape}
 use Rattle.layout.specs.declared.capability.Found.{Found}
+use Rattle.layout.specs.declared.capability.Found.TheVariants.{Nowhere, Once, Again}
 
-unfoldable pub msi_found : List ℕ → Found → MsiShape
-msi_found c f = cond (eqb f.times 0) no_msi (msi_at c f.first)
+-- the first capability of an ID counts
+abbrev pub msi_found : List ℕ → Found → MsiShape
+msi_found c Nowhere = no_msi
+msi_found c (Once a) = msi_at c a
+msi_found c (Again a) = msi_at c a
 
-unfoldable pub msix_found : List ℕ → Found → MsixShape
-msix_found c f = cond (eqb f.times 0) no_msix (msix_at c f.first)
+abbrev pub msix_found : List ℕ → Found → MsixShape
+msix_found c Nowhere = no_msix
+msix_found c (Once a) = msix_at c a
+msix_found c (Again a) = msix_at c a
 
 -- where a capability can stand: two bytes and two more fit behind it
 pub record Place (a : ℕ) : Type 0 where
   pub aligned : a % 4 ≡ 0
   pub below : a < 253
+
+abbrev pub Placed : Found → Type 0
+Placed Nowhere = Unit {0}
+Placed (Once a) = Place a
+Placed (Again a) = Place a
 
 -- how large the numbers of a shape are
 pub record Bounded (s : Shape) : Type 0 where

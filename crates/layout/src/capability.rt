@@ -1,19 +1,20 @@
 // The capability list.
-ghost use Rattle.std.specs.Prelude.{◌≡◌, cond, ◌+◌, ◌≤◌, ◌<◌};
+ghost use Rattle.std.specs.Prelude.{◌≡◌, cond, ◌<◌};
 ghost use Rattle.model.specs.Capabilities.{pointer};
-ghost use Rattle.layout.specs.Places.{broken_listing, one_more, first_pointer, listing_of};
+ghost use Rattle.layout.specs.Walk.{BeginsAt};
+ghost use Rattle.layout.specs.Places.{one_more, first_pointer, listing_of};
 
-// The places of the capabilities with one ID: how many there are, and the first.
+// Where the capabilities with one ID are: nowhere, at one place, or at more, of which the first counts.
 #[derive(Clone, Copy)]
-pub struct Found {
-    pub times: usize,
-    pub first: usize,
+pub enum Found {
+    Nowhere,
+    Once(usize),
+    Again(usize),
 }
 
-// What the list says of MSI (ID 05h) and of MSI-X (ID 11h). Nothing is found in a broken list.
+// What a list that is not broken says of MSI (ID 05h) and of MSI-X (ID 11h).
 #[derive(Clone, Copy)]
 pub struct Listing {
-    pub broken: bool,
     pub msi: Found,
     pub msix: Found,
 }
@@ -21,21 +22,14 @@ pub struct Listing {
 impl Found {
     // With a capability at a place, if its ID is the one looked for.
     fn with(self, hit: bool, at: usize) -> Found
-        requires { self.times < 48 }
-        ensures { (result ≡ cond hit (one_more self at) self) × (result.times ≤ self.times + 1) }
+        ensures { result ≡ cond hit (one_more self at) self }
     {
         if !hit {
             return self;
         }
-        if self.times == 0 {
-            return Found {
-                times: 1,
-                first: at,
-            };
-        }
-        Found {
-            times: self.times + 1,
-            first: self.first,
+        match self {
+            Found::Nowhere => Found::Once(at),
+            Found::Once(first) | Found::Again(first) => Found::Again(first),
         }
     }
 }
@@ -54,44 +48,60 @@ pub fn first_pointer(c: &[u8; 256]) -> u8
     if c[6] / 16 % 2 == 1 { c[0x34] } else { 0 }
 }
 
-fn broken_list() -> Listing
-    ensures { result ≡ broken_listing }
-{
-    let none = Found { times: 0, first: 0 };
-    Listing {
-        broken: true,
-        msi: none,
-        msix: none,
+// The places of the listed capabilities: from a pointer on, at most `left` more.
+#[derive(Drop)]
+pub struct Places<'a> {
+    pub config: &'a [u8; 256],
+    pub link: u8,
+    pub left: usize,
+}
+
+impl<'a> Places<'a> {
+    // A list has at most 48 capabilities.
+    pub fn of(config: &'a [u8; 256]) -> Places<'a>
+        ensures { BeginsAt config.now result }
+    {
+        Places {
+            config,
+            link: first_pointer(config),
+            left: 48,
+        }
     }
 }
 
-// A list has at most 48 capabilities, and none below 40h.
-pub fn read_list(c: &[u8; 256]) -> Listing
+impl<'a> Iterator for Places<'a> {
+    ghost use Rattle.std.specs.Iterator.{at_most};
+    ghost use Rattle.layout.specs.Walk.{GivesPlace};
+
+    type Item = usize;
+
+    ghost next_gives = { GivesPlace };
+
+    ghost remaining = { λ s. at_most s.left };
+
+    // None is below 40h.
+    fn next(&mut self) -> Option<usize> {
+        let at = place(self.link);
+        if at < 64 || self.left == 0 {
+            return None;
+        }
+        self.left -= 1;
+        self.link = self.config[at + 1];
+        Some(at)
+    }
+}
+
+// There is no listing of a broken list: behind the last place a pointer other than 0 stands.
+pub fn read_list(c: &[u8; 256]) -> Option<Listing>
     ensures { result ≡ listing_of c.now }
 {
-    let mut msi = Found { times: 0, first: 0 };
-    let mut msix = Found { times: 0, first: 0 };
-    let mut p = first_pointer(c);
-    let mut n: usize = 0;
-    loop {
-        let at = place(p);
-        if at < 64 {
-            if at == 0 {
-                return Listing {
-                    broken: false,
-                    msi,
-                    msix,
-                };
-            }
-            return broken_list();
-        }
-        if n == 48 {
-            return broken_list();
-        }
+    let mut msi = Found::Nowhere;
+    let mut msix = Found::Nowhere;
+    let mut places = Places::of(c);
+    while let Some(at) = places.next() {
         let id = c[at];
         msi = msi.with(id == 0x05, at);
         msix = msix.with(id == 0x11, at);
-        p = c[at + 1];
-        n += 1;
     }
+    (place(places.link) == 0).then_some(Listing { msi, msix })
 }

@@ -4,7 +4,7 @@ ghost use Rattle.model.specs.Shape.{forms, form_of};
 
 use model::{Form, Shape};
 
-// A row of the table.
+// A row of the table, in bytes: an indexed constant table is written to the stack at each call, and sixteen words of it made the calls slower.
 #[derive(Clone, Copy)]
 struct Row {
     message: u8,
@@ -18,7 +18,7 @@ const DATA_32: u8 = 0x08;
 
 const DATA_64: u8 = 0x0c;
 
-// By control bits 7 (64-bit) and 8 (masks).
+// By control bits 7 (64-bit) and 8 (masks). Document 01 names this form by place: a constant table of four rows.
 const FORMS: [Row; 4] = [
     Row {
         message: DATA_32,
@@ -62,10 +62,7 @@ fn form_row(s: Shape) -> Form
 fn upper_data(extended: bool, masks: bool) -> usize
     ensures { (result ≡ cond (extended && not masks) 2 0) × (result ≤ 2) }
 {
-    if extended {
-        return if masks { 0 } else { 2 };
-    }
-    0
+    if extended && !masks { 2 } else { 0 }
 }
 
 // The form of a card's MSI.
@@ -74,9 +71,7 @@ pub fn form(s: Shape) -> Form
 {
     let f = form_row(s);
     Form {
-        message: f.message,
-        mask: f.mask,
-        pending: f.pending,
         size: f.size + upper_data(s.msi.extended, s.msi.masks),
+        ..f
     }
 }

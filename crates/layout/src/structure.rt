@@ -7,7 +7,7 @@ ghost use Rattle.model.specs.Start.{misplaced, bad_structures};
 ghost use Rattle.layout.specs.Checks.{apart, bad_msi, bad_msix, bad_pair};
 ghost use Rattle.layout.specs.Shapes.{Bounded};
 
-use crate::capability::{first_pointer, place};
+use crate::capability::Places;
 use model::{Form, Shape};
 
 // The header at o is the structure's own, or stands outside of its n bytes at a.
@@ -26,16 +26,10 @@ fn misplaced(c: &[u8; 256], a: usize, n: usize) -> bool
     if 256 < a + n {
         return true;
     }
-    let mut p = first_pointer(c);
-    for k in 0..48usize {
-        let at = place(p);
-        if at == 0 {
-            return false;
-        }
+    for at in Places::of(c) {
         if !apart(at, a, n) {
             return true;
         }
-        p = c[at + 1];
     }
     false
 }
@@ -44,36 +38,21 @@ fn bad_msi(c: &[u8; 256], s: Shape, n: usize) -> bool
     requires { (broken (capabilities c.now) ≡ false) × Bounded s × (n < 256) }
     ensures { result ≡ bad_msi (listed (capabilities c.now)) s n }
 {
-    if s.msi.at == 0 {
-        return false;
-    }
-    if 5 < s.msi.capable {
-        return true;
-    }
-    misplaced(c, s.msi.at, n)
+    s.msi.at != 0 && (5 < s.msi.capable || misplaced(c, s.msi.at, n))
 }
 
 fn bad_msix(c: &[u8; 256], s: Shape) -> bool
     requires { (broken (capabilities c.now) ≡ false) × Bounded s }
     ensures { result ≡ bad_msix (listed (capabilities c.now)) s }
 {
-    if s.msix.at == 0 {
-        return false;
-    }
-    misplaced(c, s.msix.at, 12)
+    s.msix.at != 0 && misplaced(c, s.msix.at, 12)
 }
 
 fn bad_pair(s: Shape, n: usize) -> bool
     requires { Bounded s × (n < 256) }
     ensures { result ≡ bad_pair s n }
 {
-    if s.msi.at == 0 {
-        return false;
-    }
-    if s.msix.at == 0 {
-        return false;
-    }
-    words::ranges::overlap(s.msi.at, n, s.msix.at, 12)
+    s.msi.at != 0 && s.msix.at != 0 && words::ranges::overlap(s.msi.at, n, s.msix.at, 12)
 }
 
 // Multiple Message Capable above 5; or a structure misplaced, or overlapping the other one.
@@ -81,12 +60,5 @@ pub fn bad_structures(c: &[u8; 256], s: Shape, f: Form) -> bool
     requires { (broken (capabilities c.now) ≡ false) × Bounded s × (f ≡ form_of s) }
     ensures { result ≡ bad_structures (listed (capabilities c.now)) s }
 {
-    let n = f.size;
-    if bad_msi(c, s, n) {
-        return true;
-    }
-    if bad_msix(c, s) {
-        return true;
-    }
-    bad_pair(s, n)
+    bad_msi(c, s, f.size) || bad_msix(c, s) || bad_pair(s, f.size)
 }

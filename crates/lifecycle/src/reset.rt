@@ -7,17 +7,11 @@ ghost use Rattle.wire.specs.Wires.{bytes_owed, size_of};
 ghost use Rattle.card.specs.Outcomes.{after};
 ghost use Rattle.card.specs.Running.{Running, Wires};
 
-use card::outcome::{Outcome, accepted, refused};
+use crate::started::started;
+use card::outcome::{Outcome, accepted, refuse};
+use model::refusal::Refusal;
 use model::{Answer, Card, Function, Profile};
 use wire::{Owed, Wiring};
-
-// What a reset sends: the wire's packet. Vectors that wait send nothing.
-fn send(out: &mut [u8], owed: Owed, f: Function, pin: u8) -> usize
-    requires { (pin ≤ 4) × (size_of owed ≤ length out.old) }
-    ensures { Wrote (bytes_owed owed f.requester pin) out.old result out.new }
-{
-    wire::put_owed(out, owed, f.requester, pin)
-}
 
 // Sends Deassert if the wire of a sound card is active, then gives the state of a start with the same shape.
 pub fn reset_core(
@@ -31,18 +25,15 @@ pub fn reset_core(
     requires { Running card table.old pending.old k × Wires card k w }
     ensures { after result table.new pending.new out.new ≡ performed (world_of card table.old pending.old) (reset out.old) }
 {
-    let f = card.function;
     let wired = w.set_wire(false);
-    let owed = wired.owed;
-    if out.len() < wire::owed_size(owed) {
-        return refused(card, 6);
+    if out.len() < wire::owed_size(wired.owed) {
+        return refuse(card, Refusal::Room);
     }
-    let count = send(out, owed, f, w.pin);
-    let config = f.config;
-    let sizes = f.sizes;
-    let function = crate::started::started(
-        config,
-        sizes,
+    let count = wire::put_owed(out, wired.owed, card.function.requester, w.pin);
+    let f = card.function;
+    let function = started(
+        f.config,
+        f.sizes,
         f.events,
         f.requester,
         k.shape,
@@ -57,21 +48,8 @@ pub fn reset_core(
 pub fn reset(card: Card, table: &mut [u8], pending: &mut [u8], out: &mut [u8]) -> Outcome
     ensures { after result table.new pending.new out.new ≡ step (world_of card table.old pending.old) (reset out.old) }
 {
-    let checked = card::sound::check(
-        &card.function.config,
-        &card.function.sizes,
-        card.function.events,
-        card.function.requester,
-        card.function.line,
-        card.function.waiting,
-        card.wire,
-        table,
-        pending,
-    );
-    if !checked.sound {
-        return refused(card, 1);
-    }
-    let k = checked.profile;
-    let w = checked.wiring;
-    reset_core(card, k, w, table, pending, out)
+    let Some(found) = card::sound::check(&card, table, pending) else {
+        return refuse(card, Refusal::NotSound);
+    };
+    reset_core(card, found.profile, found.wiring, table, pending, out)
 }

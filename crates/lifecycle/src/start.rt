@@ -6,7 +6,7 @@ ghost use Rattle.model.specs.World.{endpoint_of, zero_function};
 ghost use Rattle.card.specs.Outcomes.{after, zero_card};
 
 use crate::started::started;
-use card::outcome::{Outcome, accepted, refused};
+use card::outcome::{Outcome, accepted, refuse};
 use model::{Answer, Card, Function};
 
 // The card of a refused start.
@@ -42,17 +42,17 @@ pub fn start(
         ≡ start_of (endpoint_of zero_function table.old pending.old)
         (given config sizes events requester (length table.old) (length pending.old)) }
 {
-    let checked = layout::start::check_start(
+    let checked = match layout::start::check_start(
         &config,
         &sizes,
         events,
         requester,
         table.len(),
         pending.len(),
-    );
-    if checked.refusal != 0 {
-        return refused(zero_card(), checked.refusal);
-    }
+    ) {
+        Ok(checked) => checked,
+        Err(why) => return refuse(zero_card(), why),
+    };
     let s = checked.shape;
     let form = checked.form;
     let function = started(config, sizes, events, requester, s, form, table, pending);

@@ -1,3 +1,4 @@
+pub mod RefusalLaws
 pub mod WaitingHistory
 pub mod DemandHistory
 pub mod EveryVector

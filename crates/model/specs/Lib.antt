@@ -1,5 +1,6 @@
 pub mod World
 pub mod Answers
+pub mod Refusals
 pub mod Capabilities
 pub mod Shape
 pub mod Registers

@@ -1,6 +1,8 @@
 // The types of the card model. What they mean is defined in specs/.
 #![tactic(auto)]
 
+pub mod refusal; // why a call is refused, and the number of it
+
 // One function: its 256 configuration bytes, its BAR sizes, event count E, requester ID, line and MSI waiting bits.
 // The MSI-X table and the pending array are lent at each call.
 #[derive(Clone, Copy)]
@@ -21,7 +23,7 @@ pub struct Card {
 }
 
 // The mechanism in force.
-#[derive(Clone, Copy)]
+#[derive(Clone, Copy, PartialEq, Eq)]
 pub enum Mode {
     Pin,
     Msi,
@@ -29,8 +31,9 @@ pub enum Mode {
 }
 
 // What a call answers: refused with its number; or accepted, with the value of a read, whether a withdrawn bit was set (1 or 0),
-// or the fate of an event.
-#[derive(Clone, Copy)]
+// or the fate of an event. It is no `Result` with a `Refusal`: the definitions of the calls and the theorems over them (`refused_unchanged`,
+// `room_exact`) answer with it.
+#[derive(Clone, Copy, PartialEq, Eq)]
 pub enum Answer {
     Refused(u8),
     Done,
@@ -51,14 +54,14 @@ pub struct Form {
 }
 
 // Where a structure lies in a BAR.
-#[derive(Clone, Copy)]
+#[derive(Clone, Copy, PartialEq, Eq)]
 pub struct Region {
     pub bar: usize,
     pub at: usize,
 }
 
 // The MSI capability at configuration byte `at`: Multiple Message Capable, 64-bit addresses, per-vector masks, extended message data.
-// All zero where there is none.
+// All zero where there is none, and no Option, as the definitions `shape_of` and `msi_present` have it.
 #[derive(Clone, Copy)]
 pub struct MsiShape {
     pub at: usize,
@@ -68,7 +71,7 @@ pub struct MsiShape {
     pub extended: bool,
 }
 
-// The MSI-X capability at configuration byte `at`: N, the table and the pending array. All zero where there is none.
+// The MSI-X capability at configuration byte `at`: N, the table and the pending array. All zero where there is none, too.
 #[derive(Clone, Copy)]
 pub struct MsixShape {
     pub at: usize,
@@ -93,8 +96,8 @@ pub struct Profile {
 }
 
 // An event number is not a vector number.
-#[derive(Clone, Copy)]
+#[derive(Clone, Copy, PartialEq, Eq)]
 pub struct Event(pub u16);
 
-#[derive(Clone, Copy)]
+#[derive(Clone, Copy, PartialEq, Eq)]
 pub struct Vector(pub u16);

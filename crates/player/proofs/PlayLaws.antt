@@ -12,13 +12,13 @@ use Rattle.model.specs.Trials.{wrote_bytes}
 use Rattle.model.proofs.Calls.CallLaws.{step_elim}
 use Rattle.call_log.specs.declared.Player.{Player}
 use Rattle.call_log.specs.declared.Record.{Record}
-use Rattle.call_log.specs.declared.Advanced.{Advanced}
+use Rattle.call_log.specs.declared.Scanned.{Scanned}
 use Rattle.call_log.specs.Logs.{record_in, call_of}
-use Rattle.call_log.specs.Players.{advanced}
+use Rattle.call_log.specs.Players.{refusal_at, due_at, advanced}
 use Rattle.call_log.specs.Plays.{Performed, Played, onward, tried, idle, made, play_of}
 use Rattle.call_log.specs.Cards.{on_card}
 use Rattle.call_log.proofs.Room.{lends}
-use Rattle.player.specs.declared.Ended.TheVariants.{Nothing, With}
+use Rattle.std.specs.Prelude.{Some, None}
 use Rattle.player.specs.Plays.{Heard, heard_of, play_call}
 
 -- ---- what a call writes stands at the start of its output
@@ -42,39 +42,39 @@ step-writes w c = step_elim w c (λ (o : Outcome). Writes o (output_of c)) (λ _
 -- ---- a call of a player
 
 -- a record is due, or none is
-made_due : {W : Type 0} (perform : W → Record → Performed W) (a : Advanced) (w : W) → a.due ≡ true → made perform a w ≡ tried perform a.player w a.taken
+made_due : {W : Type 0} (perform : W → Record → Performed W) (a : Scanned) (w : W) → due_at a.end ≡ true → made perform a w ≡ tried perform a.player w a.taken
 unfolding made
 made_due perform a w d = rw d
 
-made-not : {W : Type 0} (perform : W → Record → Performed W) (a : Advanced) (w : W) → a.due ≡ false → made perform a w ≡ idle perform a w
+made-not : {W : Type 0} (perform : W → Record → Performed W) (a : Scanned) (w : W) → due_at a.end ≡ false → made perform a w ≡ idle perform a w
 unfolding made
 made-not perform a w d = rw d
 
 -- the record that is due gave this outcome
-abbrev pub performed_to : Advanced → Outcome → Heard
+abbrev pub performed_to : Scanned → Outcome → Heard
 performed_to a o = record {
   player = onward a.player o.answer;
   world = o.world;
   taken = a.taken;
   refusal = 0;
-  ended = With o.answer;
+  ended = Some o.answer;
   count = o.count;
   output = o.output;
 }
 
 module _ (p : Player) (w : World) (l out : List ℕ) where
   -- what comes before the card decides
-  by_advance : (a : Advanced) → a ≡ advanced p l → heard_of (made (on_card out) a w) out ≡ play_call p w l out
+  by_advance : (a : Scanned) → a ≡ advanced p l → heard_of (made (on_card out) a w) out ≡ play_call p w l out
   unfolding play_call play_of
-  by_advance a e = ap (λ (x : Advanced). heard_of (made (on_card out) x w) out) e
+  by_advance a e = ap (λ (x : Scanned). heard_of (made (on_card out) x w) out) e
 
   -- no record is due
-  pub play-idle : (a : Advanced) → a ≡ advanced p l → a.due ≡ false
-      → record { player = a.player; world = w; taken = a.taken; refusal = a.refusal; ended = Nothing; count = 0; output = out } ≡ play_call p w l out
+  pub play-idle : (a : Scanned) → a ≡ advanced p l → due_at a.end ≡ false
+      → record { player = a.player; world = w; taken = a.taken; refusal = refusal_at a.end; ended = None; count = 0; output = out } ≡ play_call p w l out
   play-idle a e d = ap (λ (r : Played World). heard_of r out) (sym (made-not (on_card out) a w d)) ∙ by_advance a e
 
   -- the record that is due was performed
-  pub play_due : (a : Advanced) → a ≡ advanced p l → a.due ≡ true → (o : Outcome) → o ≡ step w (call_of (record_in a.player.part) out)
+  pub play_due : (a : Scanned) → a ≡ advanced p l → due_at a.end ≡ true → (o : Outcome) → o ≡ step w (call_of (record_in a.player.part) out)
       → performed_to a o ≡ play_call p w l out
   unfolding tried on_card
   play_due a e d o is =
@@ -86,7 +86,7 @@ module _ (p : Player) (w : World) (l out : List ℕ) where
         world = (step w c).world;
         taken = a.taken;
         refusal = 0;
-        ended = With (step w c).answer;
+        ended = Some (step w c).answer;
         count = writes.count i;
         output = (writes.output ∙ ap (over (wrote_bytes (step w c))) (lends w out out (record_in a.player.part)).lent) i;
       })

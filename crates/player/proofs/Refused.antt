@@ -11,7 +11,7 @@ use Rattle.call_log.specs.declared.Player.{Player}
 use Rattle.call_log.specs.Plays.{Performed, Played, play_of}
 use Rattle.call_log.specs.Cards.{on_card}
 use Rattle.call_log.proofs.OneCall.{play-refused}
-use Rattle.player.specs.declared.Ended.TheVariants.{Nothing}
+use Rattle.std.specs.Prelude.{None}
 use Rattle.player.specs.Plays.{Heard, ended_by, packets, play_call}
 
 -- "Demand 1 takes all new refusals as 01's": everything as it was, and no record was performed
@@ -20,7 +20,7 @@ pub record Unchanged (w : World) (out : List ℕ) (h : Heard) : Type 0 where
   pub world : h.world ≡ w
   pub output : h.output ≡ out
   pub count : h.count ≡ 0
-  pub ended : h.ended ≡ Nothing
+  pub ended : h.ended ≡ None
 
 -- A call of a player is not refused, or it is refused with 30 and leaves card, buffers and output
 pub refused_unchanged : (p : Player) (w : World) (log out : List ℕ) → ((play_call p w log out).refusal ≡ 0) ⊎ Unchanged w out (play_call p w log out)

@@ -1,6 +1,6 @@
 -- Document 02, request [1]: one call of a player on a card, with the output lent to it. Assumes nothing.
-use Rattle.std.specs.Prelude.{List, [], ℕ, length}
-use Rattle.std.proofs.Math.Option.{Option, none, some}
+use Rattle.std.specs.Prelude.{List, [], ℕ, length, Option, Some, None}
+use Rattle.std.proofs.Math.Option as maybe
 use Rattle.words.specs.Writers.{over}
 use Rattle.model.specs.declared.Answer.{Answer}
 use Rattle.model.specs.Answers.{refusal_of}
@@ -13,8 +13,6 @@ use Rattle.call_log.specs.declared.Record.{Record}
 use Rattle.call_log.specs.Logs.{call_of}
 use Rattle.call_log.specs.Plays as Plays
 use Rattle.call_log.specs.Cards.{on_card}
-use Rattle.player.specs.declared.Ended.{Ended}
-use Rattle.player.specs.declared.Ended.TheVariants.{Nothing, With}
 
 -- what a call gives: `ended` is the answer of its record, if it performed one; `count` bytes of the output are new
 pub record Heard : Type 0 where
@@ -22,17 +20,17 @@ pub record Heard : Type 0 where
   pub world : World
   pub taken : ℕ
   pub refusal : ℕ
-  pub ended : Ended
+  pub ended : Option Answer
   pub count : ℕ
   pub output : List ℕ
 
-abbrev pub ended_by : Option (Plays.Performed World) → Ended
-ended_by none = Nothing
-ended_by (some r) = With r.answer
+abbrev pub ended_by : maybe.Option (Plays.Performed World) → Option Answer
+ended_by maybe.none = None
+ended_by (maybe.some r) = Some r.answer
 
-abbrev pub packets : Option (Plays.Performed World) → List ℕ
-packets none = []
-packets (some r) = r.bytes
+abbrev pub packets : maybe.Option (Plays.Performed World) → List ℕ
+packets maybe.none = []
+packets (maybe.some r) = r.bytes
 
 -- its packets stand at the start of the output, and the bytes behind them keep their contents
 abbrev pub heard_of : Plays.Played World → (out : List ℕ) → Heard

@@ -28,6 +28,7 @@ fn finish(card: &mut [u8], outcome: Outcome, count: &mut usize) -> Answer
     answer
 }
 
+// Card, table and pending array come apart, as C lends them and as each call of the card takes them.
 pub fn perform(
     card: &mut [u8],
     table: &mut [u8],

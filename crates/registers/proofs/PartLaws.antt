@@ -5,9 +5,12 @@ use mathlib.Core.List.{List}
 use Prim.Native.Nat.{ℕ, ◌+◌, ◌-◌, ◌≤◌, ◌<◌, min, max}
 use native.Mathlib.Omega.{arith}
 use lib.Dec.{leb, ltb, eqb}
-use lib.ListN.{length, set}
+use lib.ListN.{length, set, replicate}
+use borrow.Author.Rules.{rules}
+use borrow.Rule.Slice.PartMut.{put_mid}
+use Rattle.std.proofs.lemmas.List.{places}
 use lib.Seq.{get_or-set_same, get_or-set_other, ext_get_or}
-use borrow.Author.Tests.{ne_eqb, eqb-true, eqb-false, lt-ltb, le-ltb, le-leb, ltb-true, ltb-false, leb-true}
+use borrow.Author.Tests.{ne_eqb, eqb-true, eqb-false, lt-ltb, le-ltb, le-leb, ltb-true, ltb-false, leb-true, leb-false}
 use Rattle.words.specs.Lists.{within, first_of}
 use Rattle.words.specs.Bits.{clear}
 use Rattle.words.specs.Bytes.{byte}
@@ -18,7 +21,7 @@ use Rattle.model.specs.declared.Shape.{Shape}
 use Rattle.model.specs.Shape.{form_of}
 use Rattle.model.specs.Registers.{header_writable, writable, stored_zero, fixed_byte, started_config}
 use Rattle.model.proofs.Registers.FixedLaws.{length-started, byte-started, fixed_started}
-use Rattle.registers.specs.Parts.{part_of, part_fixed}
+use Rattle.registers.specs.Parts.{part_of, part_fixed, part_zero}
 use Rattle.registers.proofs.MaskLaws.{header-byte, other_byte}
 
 -- ---- a part, byte by byte
@@ -56,6 +59,18 @@ module _ (g : ℕ → ℕ → ℕ) (lo : ℕ) (c : List ℕ) where
       same_test (ltb k i) (ltb k hi) (λ u. lt-ltb k hi (omega (arith, ltb-true k i u))) (λ u. lt-ltb k i (omega (arith, ltb-true k hi u))) in
       rw b)
       (λ t. rw t)
+
+-- a part is overwritten with zeros
+pub part_zeroed : (lo hi : ℕ) (c ys : List ℕ) → lo < hi → hi ≤ length c → ys ≡ replicate (hi - lo) 0 → (k : ℕ) → byte (put_mid lo (hi - lo) c ys) k ≡ part_zero lo hi c k
+unfolding part_of
+part_zeroed lo hi c ys h l e k =
+    by_test (leb lo k)
+    (λ t.
+    let i = leb-true lo k t in
+    by_test (ltb k hi)
+    (λ u. let j = ltb-true k hi u in rw (t, u, e) (search (rules, places)))
+    (λ u. let j = ltb-false k hi u in rw (t, u, e) (search (rules, places))))
+    (λ t. let i = leb-false lo k t in rw (t, e) (search (rules, places)))
 
 -- ---- the rest has no such bit
 

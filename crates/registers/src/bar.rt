@@ -13,29 +13,21 @@ use model::{Region, Shape};
 fn in_region(at: usize, r: Region, n: usize, bar: u8, offset: u32) -> bool
     ensures { result ≡ (not (eqb at 0) && in_region r n bar offset) }
 {
-    if at == 0 {
-        return false;
-    }
-    if bar as usize != r.bar {
-        return false;
-    }
-    words::ranges::within(r.at, n, offset as usize)
+    at != 0 && bar as usize == r.bar && words::ranges::within(r.at, n, offset as usize)
 }
 
 pub fn in_table(s: Shape, bar: u8, offset: u32) -> bool
     requires { s.msix.vectors ≤ 2048 }
     ensures { result ≡ in_table s bar offset }
 {
-    let n = table_bytes(s);
-    in_region(s.msix.at, s.msix.table, n, bar, offset)
+    in_region(s.msix.at, s.msix.table, table_bytes(s), bar, offset)
 }
 
 pub fn in_pending(s: Shape, bar: u8, offset: u32) -> bool
     requires { s.msix.vectors ≤ 2048 }
     ensures { result ≡ in_pending s bar offset }
 {
-    let n = pending_bytes(s);
-    in_region(s.msix.at, s.msix.pending, n, bar, offset)
+    in_region(s.msix.at, s.msix.pending, pending_bytes(s), bar, offset)
 }
 
 // The number of n bytes from an offset on, which lie inside one of the two.

@@ -1,5 +1,5 @@
 // Bits that are stored as 0 are 0.
-ghost use Rattle.std.specs.Prelude.{◌≡◌, length};
+ghost use Rattle.std.specs.Prelude.{◌≡◌};
 ghost use Rattle.model.specs.Shape.{form_of};
 ghost use Rattle.model.specs.Registers.{stored_zero};
 ghost use Rattle.model.specs.Sound.{zero_bits};
@@ -10,8 +10,8 @@ use model::{Form, Shape};
 use words::get::word32;
 
 // Status bit 3, and of MSI address bits 1:0, the masks at or above 2^Capable and the Pending register.
-fn bytes_clean(c: &[u8], s: Shape, f: Form) -> bool
-    requires { (length c.now ≡ 256) × MsiBounds s × (f ≡ form_of s) }
+pub fn config_clean(c: &[u8; 256], s: Shape, f: Form) -> bool
+    requires { MsiBounds s × (f ≡ form_of s) }
     ensures { result ≡ zero_bits (stored_zero s) c.now }
 {
     if c[6] & 0x08 != 0 {
@@ -30,11 +30,4 @@ fn bytes_clean(c: &[u8], s: Shape, f: Form) -> bool
     let mask = word32(c, at + f.mask) & !mask_bits(s);
     let pending = word32(c, at + f.pending);
     (mask | pending) == 0
-}
-
-pub fn config_clean(c: &[u8; 256], s: Shape, f: Form) -> bool
-    requires { MsiBounds s × (f ≡ form_of s) }
-    ensures { result ≡ zero_bits (stored_zero s) c.now }
-{
-    bytes_clean(c, s, f)
 }

@@ -6,7 +6,8 @@ ghost use Rattle.model.specs.Shape.{form_of};
 ghost use Rattle.model.specs.Registers.{writable, written};
 ghost use Rattle.registers.specs.Shown.{byte_shown, config_shown, Readable};
 
-use crate::masks::writable;
+use crate::masks::Formed;
+use crate::write::write;
 use model::{Form, Shape};
 
 // The n low bytes of a value are written at place `at`. What is not writable stays.
@@ -14,14 +15,9 @@ pub fn config_written(c: [u8; 256], s: Shape, f: Form, at: usize, n: usize, valu
     requires { (at + n ≤ 256) × (s.msi.capable ≤ 5) × (f ≡ form_of s) }
     ensures { result ≡ written (writable s) c at (bytes_of n value) }
 {
+    let formed = Formed { shape: s, form: f };
     let mut config = c;
-    let mut left = value;
-    for i in 0..n {
-        let k = at + i;
-        let mask = writable(s, f, k);
-        config[k] = words::bits::merge(mask, config[k], (left % 256) as u8);
-        left = left / 256;
-    }
+    write(&formed, &mut config, at, n, u64::from(value));
     config
 }
 
@@ -41,10 +37,7 @@ fn shown_byte(s: Shape, f: Form, line: bool, waiting: u32, i: usize, b: u8) -> u
     if i == 6 {
         return status(b, line);
     }
-    if !s.msi.masks {
-        return b;
-    }
-    if s.msi.at == 0 {
+    if !s.msi.masks || s.msi.at == 0 {
         return b;
     }
     let at = s.msi.at + f.pending;
@@ -55,20 +48,6 @@ fn shown_byte(s: Shape, f: Form, line: bool, waiting: u32, i: usize, b: u8) -> u
 }
 
 // The number of n bytes from place `at` on, with this line and these MSI waiting bits.
-fn bytes_value(c: &[u8], line: bool, waiting: u32, s: Shape, f: Form, at: usize, n: usize) -> u32
-    requires { (length c.now ≡ 256) × Readable c.now s f at n }
-    ensures { result ≡ number (config_shown s line waiting c.now) at n }
-{
-    let mut r: u32 = 0;
-    let mut left = n;
-    while left != 0 {
-        left -= 1;
-        let i = at + left;
-        r = r * 256 + (shown_byte(s, f, line, waiting, i, c[i]) as u32);
-    }
-    r
-}
-
 pub fn config_value(
     c: &[u8; 256],
     line: bool,
@@ -81,5 +60,9 @@ pub fn config_value(
     requires { Readable c.now s f at n }
     ensures { result ≡ number (config_shown s line waiting c.now) at n }
 {
-    bytes_value(c, line, waiting, s, f, at, n)
+    let mut r: u32 = 0;
+    for i in (at..at + n).rev() {
+        r = r * 256 + (shown_byte(s, f, line, waiting, i, c[i]) as u32);
+    }
+    r
 }

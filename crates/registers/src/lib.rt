@@ -7,3 +7,4 @@ pub mod config;
 pub mod masks;
 pub mod start;
 pub mod table;
+pub mod write;

@@ -4,18 +4,25 @@ ghost use Rattle.words.specs.Bytes.{bytes_of};
 ghost use Rattle.model.specs.Registers.{entry_writable, entry_zero, written, started_table};
 ghost use Rattle.model.specs.Sound.{zero_bits};
 
-// The writable bits of byte i.
-fn entry_writable(i: usize) -> u8
-    ensures { result ≡ entry_writable i }
-{
-    let k = i % 16;
-    if k == 0 {
-        return 0xfc;
+use crate::write::{Masks, write};
+
+// The entries of a table.
+#[derive(Clone, Copy)]
+pub struct Entries;
+
+impl Masks for Entries {
+    ghost use Rattle.model.specs.Registers.{entry_writable};
+
+    ghost masks = { λ e. entry_writable };
+
+    fn mask(&self, i: usize) -> u8 {
+        match i % 16 {
+            0 => 0xfc,
+            1..=11 => 0xff,
+            12 => 0x01,
+            _ => 0,
+        }
     }
-    if k < 12 {
-        return 0xff;
-    }
-    if k == 12 { 0x01 } else { 0 }
 }
 
 // The n low bytes of a value are written at place `at`. What is not writable stays.
@@ -23,13 +30,7 @@ pub fn table_written(table: &mut [u8], at: usize, n: usize, value: u64)
     requires { at + n ≤ length table.old }
     ensures { table.new ≡ written entry_writable table.old at (bytes_of n value) }
 {
-    let mut left = value;
-    for i in 0..n {
-        let k = at + i;
-        let mask = entry_writable(k);
-        table[k] = words::bits::merge(mask, table[k], (left % 256) as u8);
-        left = left / 256;
-    }
+    write(&Entries, table, at, n, value);
 }
 
 // n entries as a start gives them: the mask bits are 1, all else is 0.
@@ -38,6 +39,7 @@ pub fn started_table(table: &mut [u8], n: usize)
     ensures { table.new ≡ started_table n }
 {
     words::put::fill(table, 0);
+    // By index: of a loop over chunks_exact_mut a proof knows no byte that it wrote.
     for k in 0..n {
         table[16 * k + 12] = 1;
     }

@@ -6,3 +6,4 @@ pub mod WordClear
 pub mod Releases
 pub mod Beyond
 pub mod OwedLaws
+mod Among

@@ -5,6 +5,8 @@ use Prim.Native.Nat.{ℕ, ◌+◌, ◌-◌, ◌*◌, ◌%◌, ◌^◌, ◌≤◌
 use native.Mathlib.Omega.{arith}
 use lib.Bits.{bit_and}
 use lib.ListN.{length}
+use borrow.Rule.Slice.PartMut.{put_mid, mid_of}
+use Rattle.words.proofs.Writers.{placed}
 use Rattle.words.specs.Bytes.{word64, bytes_of, Bytes}
 use Rattle.words.specs.Writers.{over, put_at, Wrote}
 use Rattle.words.proofs.BitLaws.{and-not}
@@ -64,8 +66,8 @@ module _ (requester : ℕ) (table p₀ o₀ : List ℕ) where
         clearing = ap (clear_pending p₀) e;
       }
 
-  pub releasing_room : (o p : List ℕ) (sent at : ℕ) → Releasing o p sent at → at < length p → at + 8 ≤ length p
-  releasing_room o p sent at g h = omega (arith, g.whole, g.lent.words)
+  pub releasing_room : (o p : List ℕ) (sent at : ℕ) → Releasing o p sent at → at < length p₀ → at + 8 ≤ length p
+  releasing_room o p sent at g h = omega (arith, g.whole, g.same, g.lent.words)
 
   -- there is room for the packets of the next word
   pub releasing_fits : (o p : List ℕ) (sent at : ℕ) → length (entry_packets requester table all) ≤ length o₀ → Releasing o p sent at → at + 8 ≤ length p
@@ -95,9 +97,17 @@ module _ (requester : ℕ) (table p₀ o₀ : List ℕ) where
             ∙ ap (clear_pending p) (sym (owed_split table p at h)) ∙ g.clearing;
       }
 
-  pub releasing_done : (o p : List ℕ) (sent at : ℕ) → Releasing o p sent at → length p ≤ at → Released requester table all p₀ o₀ sent p o
+  -- a call that is lent the output behind what was sent
+  pub releasing_turn : (o p : List ℕ) (sent at n : ℕ) (ys p' : List ℕ) → length (entry_packets requester table all) ≤ length o₀ → at < length p₀ → Releasing o p sent at
+      → Released requester table (owed_word table p at) p (mid_of sent (length o - sent) o) n p' ys
+      → length (put_mid sent (length o - sent) o ys) ≡ length o → Releasing (put_mid sent (length o - sent) o ys) p' (sent + n) (at + 8)
+  releasing_turn o p sent at n ys p' f h g r l =
+      releasing_next o p sent at n _ p' f g (releasing_room o p sent at g h) r.sent.count l
+      (placed o sent (entry_packets requester table (owed_word table p at)) ys r.sent.bytes) r.cleared
+
+  pub releasing_done : (o p : List ℕ) (sent at : ℕ) → Releasing o p sent at → length p₀ ≤ at → Released requester table all p₀ o₀ sent p o
   releasing_done o p sent at g h =
-      let e : owed_from table p at ≡ [] = owed_end table p at h in
+      let e : owed_from table p at ≡ [] = owed_end table p at (omega (arith, g.same)) in
       record {
         sent = sending_done (entry_packets requester table all) o₀ o (entry_packets requester table (owed_from table p at)) sent g.sending
             (join-none (entry_message requester table) (owed_from table p at) e);

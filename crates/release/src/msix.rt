@@ -19,10 +19,8 @@ pub fn msix_size(table: &[u8], pending: &[u8]) -> usize
     ensures { (requester : ℕ) → result ≡ length (entry_packets requester table.now (owed_all table.now pending.now)) }
 {
     let mut n: usize = 0;
-    let mut at: usize = 0;
-    while at < pending.len() {
+    for at in (0..pending.len()).step_by(8) {
         n += word_size(table, 8 * at, open_word(table, pending, at));
-        at += 8;
     }
     n
 }
@@ -32,12 +30,10 @@ pub fn none_owed(table: &[u8], pending: &[u8]) -> bool
     requires { Lent table.now pending.now }
     ensures { result ≡ is_empty (owed_all table.now pending.now) }
 {
-    let mut at: usize = 0;
-    while at < pending.len() {
+    for at in (0..pending.len()).step_by(8) {
         if open_word(table, pending, at) != 0 {
             return false;
         }
-        at += 8;
     }
     true
 }
@@ -71,10 +67,8 @@ pub fn msix_send(out: &mut [u8], table: &[u8], pending: &mut [u8], requester: u1
         pending.new out.new }
 {
     let mut sent: usize = 0;
-    let mut at: usize = 0;
-    while at < pending.len() {
+    for at in (0..pending.len()).step_by(8) {
         sent += release_word(&mut out[sent..], table, pending, at, requester);
-        at += 8;
     }
     sent
 }

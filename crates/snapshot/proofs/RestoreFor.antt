@@ -26,6 +26,7 @@ use Rattle.model.proofs.Calls.RestoreCalls.{IsImage, saved_is, buffers_held, hel
 use Rattle.image.specs.Layout.{image_size}
 use Rattle.card.specs.declared.outcome.Outcome.{Outcome}
 use Rattle.card.specs.Outcomes.{refused_with, accepted_with, after}
+use Rattle.snapshot.specs.Reads.{Saved}
 
 -- ---- what an image holds
 
@@ -82,41 +83,35 @@ module _ (l : List ℕ) (b : Bytes l) (long : 294 ≤ length l) (m : same (take 
 -- ---- each way out
 
 -- refused with the number k
-restore-refused : (card : Card) (t p l : List ℕ) (r : Outcome) (k : ℕ) → restore_refusal l (length t) (length p) ≡ k → eqb k 0 ≡ false → r ≡ refused_with card k
+pub restore-refused : (card : Card) (t p l : List ℕ) (r : Outcome) (k : ℕ) → restore_refusal l (length t) (length p) ≡ k → eqb k 0 ≡ false → r ≡ refused_with card k
     → after r t p [] ≡ restore_of (world_of card t p) l
 restore-refused card t p l r k e z q = ap (λ (x : Outcome). after x t p []) q ∙ sym (RestoreCalls.restore-refused (world_of card t p) l k e z)
 
 -- 20
-pub no_image : (card : Card) (t p l : List ℕ) (r : Outcome) → length l < 294 → r ≡ refused_with card 20 → after r t p [] ≡ restore_of (world_of card t p) l
-no_image card t p l r h q = restore-refused card t p l r 20 (RestoreCalls.too_short l (length t) (length p) h) refl q
+pub no_image : (l : List ℕ) → length l < 294 → (t p : ℕ) → restore_refusal l t p ≡ 20
+no_image l h t p = RestoreCalls.too_short l t p h
 
 module _ (l : List ℕ) (long : 294 ≤ length l) (b : Bool) (e : b ≡ same (take 3 l) mark) where
-  pub no_mark : (card : Card) (t p : List ℕ) (r : Outcome) → not b ≡ true → r ≡ refused_with card 20 → after r t p [] ≡ restore_of (world_of card t p) l
-  no_mark card t p r h q = restore-refused card t p l r 20 (RestoreCalls.no_mark l (length t) (length p) long (sym e ∙ not-true b h)) refl q
+  pub no_mark : not b ≡ true → (t p : ℕ) → restore_refusal l t p ≡ 20
+  no_mark h t p = RestoreCalls.no_mark l t p long (sym e ∙ not-true b h)
 
   module _ (y : not b ≡ false) (v : ℕ) (d : v ≡ word16 l 3) where
     -- 21
-    pub other_version : (card : Card) (t p : List ℕ) (r : Outcome) → (v ≡ 1 → ⊥) → r ≡ refused_with card 21 → after r t p [] ≡ restore_of (world_of card t p) l
-    other_version card t p r h q =
-        restore-refused card t p l r 21 (RestoreCalls.other_version l (length t) (length p) long (sym e ∙ not-false b y) (λ one. h (d ∙ one))) refl q
+    pub other_version : (v ≡ 1 → ⊥) → (t p : ℕ) → restore_refusal l t p ≡ 21
+    other_version h t p = RestoreCalls.other_version l t p long (sym e ∙ not-false b y) (λ one. h (d ∙ one))
 
     pub is-image : v ≡ 1 → (same (take 3 l) mark ≡ true) × (word16 l 3 ≡ 1)
     is-image one = (sym e ∙ not-false b y, sym d ∙ one)
 
 -- 22: an image that passed these checks
-module _ (l : List ℕ) (long : 294 ≤ length l) (i : (same (take 3 l) mark ≡ true) × (word16 l 3 ≡ 1)) where
-  pub not_saved : (a : Bool) → a ≡ is_saved l → (card : Card) (t p : List ℕ) (r : Outcome) → not a ≡ true → r ≡ refused_with card 22
-      → after r t p [] ≡ restore_of (world_of card t p) l
-  not_saved a s card t p r h q =
-      restore-refused card t p l r 22 (RestoreCalls.not_saved l (length t) (length p) (record { long = long; marked = i.0; version = i.1 }) (sym s ∙ not-true a h)) refl q
+pub not_saved : (l : List ℕ) → 294 ≤ length l → (same (take 3 l) mark ≡ true) × (word16 l 3 ≡ 1) → (a : Bool) → a ≡ is_saved l → not a ≡ true
+    → (t p : ℕ) → restore_refusal l t p ≡ 22
+not_saved l long i a s h t p = RestoreCalls.not_saved l t p (record { long = long; marked = i.0; version = i.1 }) (sym s ∙ not-true a h)
 
--- one that passed 22, too: the card that it holds, and the length of its table
-pub record Saved (l : List ℕ) (card : Card) (n : ℕ) : Type 0 where
-  pub long : 294 ≤ length l
-  pub image : (same (take 3 l) mark ≡ true) × (word16 l 3 ≡ 1)
-  pub saved : is_saved l ≡ true
-  pub is_card : card ≡ card_of (world_in l)
-  pub is_length : n ≡ table_bytes (shape_of card.function.config)
+-- one that passed 22, too
+pub passed : (l : List ℕ) → 294 ≤ length l → (same (take 3 l) mark ≡ true) × (word16 l 3 ≡ 1) → (a : Bool) → a ≡ is_saved l → not a ≡ false
+    → (card : Card) (n : ℕ) → card ≡ card_of (world_in l) → n ≡ table_bytes (shape_of card.function.config) → Saved l card n
+passed l long i a s y card n e k = record { long = long; image = i; saved = sym s ∙ not-false a y; is_card = e; is_length = k }
 
 module _ (l : List ℕ) (card' : Card) (n : ℕ) (k : Saved l card' n) where
   is-sound : sound (world_in l) ≡ true

@@ -5,9 +5,11 @@ ghost use Rattle.words.specs.Bytes.{word16};
 ghost use Rattle.model.specs.Shape.{shape_of, table_bytes};
 ghost use Rattle.model.specs.World.{card_of};
 ghost use Rattle.model.specs.Image.{mark, world_in, is_saved};
+ghost use Rattle.snapshot.specs.Reads.{Reads};
 
 use image::format::Image;
 use model::Card;
+use model::refusal::Refusal;
 
 // The card of an image.
 pub fn held_card(image: &[u8]) -> Card
@@ -45,16 +47,34 @@ pub fn is_saved(image: &[u8], card: Card, n: usize) -> bool
     if image.len() < middle {
         return false;
     }
-    let found = card::sound::check(
-        &card.function.config,
-        &card.function.sizes,
-        card.function.events,
-        card.function.requester,
-        card.function.line,
-        card.function.waiting,
-        card.wire,
-        &image[start..middle],
-        &image[middle..],
-    );
-    found.sound
+    card::sound::check(&card, &image[start..middle], &image[middle..]).is_some()
+}
+
+// The card of an image that some sound card saves, and the length of its table.
+#[derive(Clone, Copy)]
+pub struct Held {
+    pub card: Card,
+    pub table: usize,
+}
+
+// The checks of a restore, but for that of the lent buffers.
+#[inline(always)]
+pub fn read(image: &[u8]) -> Result<Held, Refusal>
+    ensures { Reads image.now result }
+{
+    if image.len() < Image::TABLE {
+        return Err(Refusal::Mark);
+    }
+    if !image::get::is_marked(image) {
+        return Err(Refusal::Mark);
+    }
+    if image::get::version(image) != Image::VERSION {
+        return Err(Refusal::Version);
+    }
+    let card = held_card(image);
+    let table = table_length(card);
+    if !is_saved(image, card, table) {
+        return Err(Refusal::Image);
+    }
+    Ok(Held { card, table })
 }

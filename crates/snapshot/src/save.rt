@@ -5,8 +5,9 @@ ghost use Rattle.model.specs.Calls.{performed, step, save};
 ghost use Rattle.card.specs.Outcomes.{after};
 ghost use Rattle.card.specs.Running.{Running};
 
-use card::outcome::{Outcome, accepted, refused};
+use card::outcome::{Outcome, accepted, refuse};
 use image::format::Image;
+use model::refusal::Refusal;
 use model::{Answer, Card, Profile};
 
 // Saves a sound card: its image stands at the start of the output.
@@ -16,7 +17,7 @@ pub fn save_core(card: Card, k: Profile, table: &[u8], pending: &[u8], out: &mut
 {
     let size = Image::new(table.len(), pending.len()).len();
     if out.len() < size {
-        return refused(card, 6);
+        return refuse(card, Refusal::Room);
     }
     let n = image::put::put_image(out, card, table, pending);
     accepted(card, Answer::Done, n)
@@ -25,19 +26,8 @@ pub fn save_core(card: Card, k: Profile, table: &[u8], pending: &[u8], out: &mut
 pub fn save(card: Card, table: &[u8], pending: &[u8], out: &mut [u8]) -> Outcome
     ensures { after result table.now pending.now out.new ≡ step (world_of card table.now pending.now) (save out.old) }
 {
-    let checked = card::sound::check(
-        &card.function.config,
-        &card.function.sizes,
-        card.function.events,
-        card.function.requester,
-        card.function.line,
-        card.function.waiting,
-        card.wire,
-        table,
-        pending,
-    );
-    if !checked.sound {
-        return refused(card, 1);
-    }
-    save_core(card, checked.profile, table, pending, out)
+    let Some(found) = card::sound::check(&card, table, pending) else {
+        return refuse(card, Refusal::NotSound);
+    };
+    save_core(card, found.profile, table, pending, out)
 }

@@ -9,9 +9,10 @@ use borrow.Author.Tests.{eq-eqb, ne_eqb, lt-ltb, le-ltb}
 use Rattle.words.specs.Lists.{join, count, first_of}
 use Rattle.words.specs.Writers.{Wrote}
 use Rattle.words.proofs.BoolLaws.{by_test}
+use Rattle.std.specs.Prelude.{Some, None}
 use Rattle.tlp.specs.declared.decode.Message as Fields
 use Rattle.tlp.specs.declared.decode.Level.{Level}
-use Rattle.tlp.specs.declared.decode.Packet.TheVariants.{Message, Wire, Other}
+use Rattle.tlp.specs.declared.decode.Packet.TheVariants.{Message, Wire}
 use Rattle.tlp.specs.Decoded.{decoded}
 use Rattle.switch.specs.declared.Switch.{Switch}
 use Rattle.switch.specs.declared.outcome.Outcome.{Outcome}
@@ -77,19 +78,19 @@ call-good s c h = by_test (ltb (length (output_of c)) (length (sends s c))) (λ 
 
 -- ---- whether 50 refuses a packet
 
-even_good : (m : Fields.Message) → eqb (m.address % 4) 0 ≡ true → bad_packet (Message m) ≡ false
+even_good : (m : Fields.Message) → eqb (m.address % 4) 0 ≡ true → bad_packet (Some (Message m)) ≡ false
 unfolding bad_packet
 even_good m q = rw q
 
-odd_bad : (m : Fields.Message) → eqb (m.address % 4) 0 ≡ false → bad_packet (Message m) ≡ true
+odd_bad : (m : Fields.Message) → eqb (m.address % 4) 0 ≡ false → bad_packet (Some (Message m)) ≡ true
 unfolding bad_packet
 odd_bad m q = rw q
 
-device_good : (w : Level) → eqb (device_of w.requester) 0 ≡ true → bad_packet (Wire w) ≡ false
+device_good : (w : Level) → eqb (device_of w.requester) 0 ≡ true → bad_packet (Some (Wire w)) ≡ false
 unfolding bad_packet
 device_good w q = rw q
 
-device_bad : (w : Level) → eqb (device_of w.requester) 0 ≡ false → bad_packet (Wire w) ≡ true
+device_bad : (w : Level) → eqb (device_of w.requester) 0 ≡ false → bad_packet (Some (Wire w)) ≡ true
 unfolding bad_packet
 device_bad w q = rw q
 
@@ -109,7 +110,7 @@ module _ (s : Switch) (k : ℕ) (out : List ℕ) where
 
     module _ (h : k ≤ 7) where
       -- no packet
-      pub pass-other : (r : Outcome) → decoded bytes ≡ Other → r ≡ refused_with s 50 → after r out ≡ switch_step s (pass k bytes out)
+      pub pass-other : (r : Outcome) → decoded bytes ≡ None → r ≡ refused_with s 50 → after r out ≡ switch_step s (pass k bytes out)
       unfolding bad_call bad_packet
       pass-other r d e = call_bad s (pass k bytes out) r (rw (le-ltb 7 k h, d)) e
 
@@ -125,7 +126,7 @@ module _ (s : Switch) (k : ℕ) (out : List ℕ) where
       bad : bad_packet (decoded bytes) ≡ true → refused s 50 out ≡ switch_step s (pass k bytes out)
       bad b = call_bad s (pass k bytes out) (refused_with s 50) (judged ∙ b) refl
 
-      pub pass-message : (x : Switched) (m : Fields.Message) → decoded bytes ≡ Message m → x ≡ message_passed s m.address bytes out
+      pub pass-message : (x : Switched) (m : Fields.Message) → decoded bytes ≡ Some (Message m) → x ≡ message_passed s m.address bytes out
           → x ≡ switch_step s (pass k bytes out)
       unfolding message_passed
       pass-message x m d e =
@@ -134,7 +135,7 @@ module _ (s : Switch) (k : ℕ) (out : List ℕ) where
           (λ q. rw q (taken s bytes (ap bad_packet d ∙ even_good m q) (message-next s k bytes out m d) (message-sends s k bytes out m d)))
           (λ q. rw q (bad (ap bad_packet d ∙ odd_bad m q)))
 
-      pub pass-wire : (x : Switched) (w : Level) → decoded bytes ≡ Wire w → x ≡ wire_taken s k w out → x ≡ switch_step s (pass k bytes out)
+      pub pass-wire : (x : Switched) (w : Level) → decoded bytes ≡ Some (Wire w) → x ≡ wire_taken s k w out → x ≡ switch_step s (pass k bytes out)
       unfolding wire_taken
       pass-wire x w d e =
           e

@@ -14,8 +14,9 @@ use Rattle.words.proofs.BoolLaws.{by_test, cond_elim, cond-not, cond_same}
 use Rattle.words.proofs.ListLaws.{Holds, holds_head, holds_tail, member-count, count-member}
 use Rattle.model.specs.Packets.{message_size, wire_message}
 use Rattle.model.proofs.Vectors.PacketLaws.{message-length, wire-length}
+use Rattle.std.specs.Prelude.{Option, Some, None}
 use Rattle.tlp.specs.declared.decode.Packet.{Packet}
-use Rattle.tlp.specs.declared.decode.Packet.TheVariants.{Message, Wire, Other}
+use Rattle.tlp.specs.declared.decode.Packet.TheVariants.{Message, Wire}
 use Rattle.tlp.specs.Decoded.{decoded, first_length}
 use Rattle.tlp.proofs.RoundTrip.{wire_decodes, decoded-message, first-wire, first-message}
 use Rattle.switch.specs.Calls.{own_requester, change_of, changes, forwarded}
@@ -32,7 +33,7 @@ says_nothing q zero h b = refl
 says_nothing q (suc n) h b = refl
 
 -- a packet p, and what stands behind it
-module _ (p rest : List ℕ) (x : Packet) (nonempty : 1 ≤ length p) (whole : first_length (p ++ rest) ≡ length p) (is : decoded p ≡ x) where
+module _ (p rest : List ℕ) (x : Option Packet) (nonempty : 1 ≤ length p) (whole : first_length (p ++ rest) ≡ length p) (is : decoded p ≡ x) where
   packets-first : (n : ℕ) → packets_in (suc n) (p ++ rest) ≡ x ∷ packets_in n rest
   unfolding packets_in
   packets-first n =
@@ -117,12 +118,12 @@ pub says-forwarded : (q : ℕ) (bytes rest : List ℕ) (f : Bool → Bool) → S
 unfolding forwarded is_for
 says-forwarded q bytes rest f says = go (decoded bytes) refl
   where
-    go : (x : Packet) → decoded bytes ≡ x → Says q (forwarded x bytes ++ rest) f
-    go (Message m) e =
+    go : (x : Option Packet) → decoded bytes ≡ x → Says q (forwarded x bytes ++ rest) f
+    go (Some (Message m)) e =
         let b = (decoded-message bytes m e).bytes in
         let size : length bytes ≡ message_size m.upper = ap length b ∙ message-length m.requester m.upper m.address m.value in
         let whole : first_length (bytes ++ rest) ≡ message_size m.upper =
         ap (λ (l : List ℕ). first_length (l ++ rest)) b ∙ first-message m.requester m.upper m.address m.value rest in
-        says_packet bytes rest (Message m) (omega (arith, size, size_nonzero m.upper)) (whole ∙ sym size) e q f says
-    go (Wire w) e = says
-    go Other e = says
+        says_packet bytes rest (Some (Message m)) (omega (arith, size, size_nonzero m.upper)) (whole ∙ sym size) e q f says
+    go (Some (Wire w)) e = says
+    go None e = says

@@ -1,15 +1,26 @@
 -- The eight by four levels as the code makes them, row by row. Assumes nothing.
 use mathlib.Core.Path.{◌≡◌, refl, ap, ◌∙◌}
 use mathlib.Core.Bool.{Bool, false, ◌||◌, or_assoc, or-false}
-use mathlib.Core.List.{List, [], ◌∷◌}
+use mathlib.Core.List.{List, [], ◌∷◌, map}
 use Prim.Native.Nat.{ℕ, zero, suc, ◌+◌, ◌-◌, ◌%◌, ◌<◌}
 use native.Mathlib.Omega.{arith}
-use lib.ListN.{get_or}
+use lib.ListN.{length, get_or}
 use Rattle.words.specs.Lists.{count, any}
 use Rattle.words.proofs.BoolLaws.{eight_joined}
 use Rattle.switch.specs.declared.Switch.{Switch}
 use Rattle.switch.specs.Switches.{drives, upstream_pin, upstream}
 use Rattle.switch.specs.Joined.{levels_of, turned_by, mapped_of, active_in, joined_of, upstream_of}
+
+-- a list of n elements, of which each is what f gives for its place, counted from i
+pub listed : {A : Type 0} (f : ℕ → A) (d : A) (i n : ℕ) (l : List A) → length l ≡ n → ((k : ℕ) → k < n → get_or l k d ≡ f (i + k)) → l ≡ map f (count i n)
+unfolding count
+listed f d i zero [] e h = refl
+listed f d i zero (x ∷ l) e h = absurd (omega (arith, e))
+listed f d i (suc n) [] e h = absurd (omega (arith, e))
+listed f d i (suc n) (x ∷ l) e h =
+    let first : x ≡ f i = h 0 (omega arith) ∙ ap f (omega arith) in
+    let rest : l ≡ map f (count (suc i) n) = listed f d (suc i) n l (omega (arith, e)) (λ k j. h (suc k) (omega arith) ∙ ap f (omega arith)) in
+    rw (first, rest)
 
 four : (a b c d : Bool) → (a ∷ b ∷ c ∷ d ∷ []) ≡ ((a || false) ∷ (b || false) ∷ (c || false) ∷ (d || false) ∷ [])
 four a b c d = rw (or-false, or-false, or-false, or-false)

@@ -10,8 +10,9 @@ use Rattle.words.proofs.BoolLaws.{neither, or_intro}
 use Rattle.model.specs.Answers.{is_accepted}
 use Rattle.model.specs.declared.Answer.TheVariants.{Refused}
 use Rattle.model.proofs.History.Machine.{Law, bit_after, bit-iff}
+use Rattle.std.specs.Prelude.{Option, Some, None}
 use Rattle.tlp.specs.declared.decode.Packet.{Packet}
-use Rattle.tlp.specs.declared.decode.Packet.TheVariants.{Message, Wire, Other}
+use Rattle.tlp.specs.declared.decode.Packet.TheVariants.{Message, Wire}
 use Rattle.tlp.specs.Decoded.{decoded}
 use Rattle.tlp.proofs.RoundTrip.{decoded-wire}
 use Rattle.switch.specs.declared.Switch.{Switch}
@@ -30,14 +31,14 @@ no-packet here was = rw (and-false here)
 
 module _ (s : Switch) (h : Shaped s) (k p : ℕ) (first : 1 ≤ p) where
   -- a packet for the wire gives it its level
-  level-taking : (j : ℕ) (bytes : List ℕ) (x : Packet) → decoded bytes ≡ x → j < 8
+  level-taking : (j : ℕ) (bytes : List ℕ) (x : Option Packet) → decoded bytes ≡ x → j < 8
       → level (taking s j x) k p ≡ cond (eqb j k && is_for p x) (is_assert x) (level s k p)
   unfolding taking is_for is_assert
-  level-taking j bytes (Message m) e i = no-packet (eqb j k) (level s k p)
-  level-taking j bytes (Wire w) e i =
+  level-taking j bytes (Some (Message m)) e i = no-packet (eqb j k) (level s k p)
+  level-taking j bytes (Some (Wire w)) e i =
       let b = decoded-wire bytes w e in
       level-set s h j i w.pin w.active k p b.first b.last first
-  level-taking j bytes Other e i = no-packet (eqb j k) (level s k p)
+  level-taking j bytes None e i = no-packet (eqb j k) (level s k p)
 
   -- the wire after a call: as a packet for it says; inactive if its port went down; or else as it was
   pub level-next : (c : SwitchCall) → bad_call c ≡ false → level (next_switch s c) k p ≡ cond (gives_packet k p c) (gives_assert c) (cond (takes_down k c) false (level s k p))

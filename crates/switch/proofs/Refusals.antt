@@ -14,8 +14,9 @@ use borrow.Author.Tests.{eq-eqb, eqb-true, ltb-true, lt-ltb, not-false}
 use Rattle.words.specs.Lists.{first_of, lacks}
 use Rattle.words.proofs.BoolLaws.{first-lacks}
 use Rattle.model.specs.Answers.{is_accepted, refusal_of}
+use Rattle.std.specs.Prelude.{Option, Some, None}
 use Rattle.tlp.specs.declared.decode.Packet.{Packet}
-use Rattle.tlp.specs.declared.decode.Packet.TheVariants.{Message, Wire, Other}
+use Rattle.tlp.specs.declared.decode.Packet.TheVariants.{Message, Wire}
 use Rattle.tlp.specs.Decoded.{decoded}
 use Rattle.tlp.proofs.RoundTrip.{wire_decodes, message_decodes, decoded-wire, decoded-message}
 use Rattle.switch.specs.declared.Switch.{Switch}
@@ -76,16 +77,16 @@ pub port_packet : (bytes : List ℕ) → (bad_packet (decoded bytes) ≡ false) 
 unfolding bad_packet
 port_packet bytes = (go (decoded bytes) refl, taken)
   where
-    go : (x : Packet) → decoded bytes ≡ x → bad_packet x ≡ false → PortPacket bytes
-    go (Message m) e b =
+    go : (x : Option Packet) → decoded bytes ≡ x → bad_packet x ≡ false → PortPacket bytes
+    go (Some (Message m)) e b =
         let r = decoded-message bytes m e in
         subst PortPacket (sym r.bytes)
         (of_message m.requester m.upper m.address m.value r.requester r.upper r.address r.value (eqb-true (m.address % 4) 0 (not-false _ b)))
-    go (Wire w) e b =
+    go (Some (Wire w)) e b =
         let r = decoded-wire bytes w e in
         subst PortPacket (sym r.bytes)
         (of_wire w.requester w.pin w.active r.requester r.first r.last (eqb-true (device_of w.requester) 0 (not-false _ b)))
-    go Other e b = absurd (true≢false b)
+    go None e b = absurd (true≢false b)
 
     taken : {l : List ℕ} → PortPacket l → bad_packet (decoded l) ≡ false
     taken (of_message requester upper address value r u a v low) = rw (message_decodes requester upper address value r u a v, eq-eqb (address % 4) 0 low)

@@ -15,9 +15,10 @@ use Rattle.words.proofs.ListLaws.{join-same}
 use Rattle.model.specs.Answers.{is_accepted}
 use Rattle.model.specs.Packets.{message, wire_message}
 use Rattle.model.proofs.Vectors.PacketLaws.{message-length, size-le}
+use Rattle.std.specs.Prelude.{Option, Some, None}
 use Rattle.tlp.specs.declared.decode.Level.{Level}
 use Rattle.tlp.specs.declared.decode.Packet.{Packet}
-use Rattle.tlp.specs.declared.decode.Packet.TheVariants.{Message, Wire, Other}
+use Rattle.tlp.specs.declared.decode.Packet.TheVariants.{Message, Wire}
 use Rattle.tlp.specs.Decoded.{decoded}
 use Rattle.tlp.proofs.RoundTrip.{wire_decodes, message_decodes, decoded-wire, decoded-message}
 use Rattle.switch.specs.declared.Switch.{Switch}
@@ -118,16 +119,16 @@ down_deasserts s k out =
 
 -- a packet sends at most n bytes if n is 20 or more and the changes of a wire packet are so many
 pass-length : (s : Switch) (k : ℕ) (bytes out : List ℕ) (n : ℕ) → 20 ≤ n
-    → ((w : Level) → decoded bytes ≡ Wire w → length (changes s.requester (upstream s) (upstream (with_level s k w.pin w.active))) ≤ n)
+    → ((w : Level) → decoded bytes ≡ Some (Wire w) → length (changes s.requester (upstream s) (upstream (with_level s k w.pin w.active))) ≤ n)
     → length (sends s (pass k bytes out)) ≤ n
 pass-length s k bytes out n few f = go (decoded bytes) refl
   where
-    go : (x : Packet) → decoded bytes ≡ x → length (sends s (pass k bytes out)) ≤ n
-    go (Message m) e =
+    go : (x : Option Packet) → decoded bytes ≡ x → length (sends s (pass k bytes out)) ≤ n
+    go (Some (Message m)) e =
         let size = ap length (decoded-message bytes m e).bytes ∙ message-length m.requester m.upper m.address m.value in
         rw (message-sends s k bytes out m e) (omega (arith, size, size-le m.upper))
-    go (Wire w) e = rw (wire-sends s k bytes out w e) (f w e)
-    go Other e = rw (other_sends s k bytes out e) (omega arith)
+    go (Some (Wire w)) e = rw (wire-sends s k bytes out w e) (f w e)
+    go None e = rw (other_sends s k bytes out e) (omega arith)
 
 sends-length : (s : Switch) (c : SwitchCall) → length (sends s c) ≤ 64
 unfolding sends forwarded_by
@@ -145,7 +146,7 @@ pass_bound s k bytes out =
     (λ _. pass-length s k bytes out 20 (omega arith) one)
     (λ _. omega arith)
   where
-    one : (w : Level) → decoded bytes ≡ Wire w → length (changes s.requester (upstream s) (upstream (with_level s k w.pin w.active))) ≤ 20
+    one : (w : Level) → decoded bytes ≡ Some (Wire w) → length (changes s.requester (upstream s) (upstream (with_level s k w.pin w.active))) ≤ 20
     one w e =
         let r = decoded-wire bytes w e in
         let after = upstream (with_level s k w.pin w.active) in

@@ -12,10 +12,11 @@ use borrow.Author.Tests.{eq-eqb, eqb-true, le-ltb, ltb-false}
 use Rattle.words.proofs.BoolLaws.{cond_elim, neither, or_intro, passed, row-passes, no_row}
 use Rattle.model.specs.declared.Answer.TheVariants.{Refused, Done}
 use Rattle.model.specs.Answers.{is_accepted}
+use Rattle.std.specs.Prelude.{Option, Some, None}
 use Rattle.tlp.specs.declared.decode.Message as Fields
 use Rattle.tlp.specs.declared.decode.Level.{Level}
 use Rattle.tlp.specs.declared.decode.Packet.{Packet}
-use Rattle.tlp.specs.declared.decode.Packet.TheVariants.{Message, Wire, Other}
+use Rattle.tlp.specs.declared.decode.Packet.TheVariants.{Message, Wire}
 use Rattle.tlp.specs.Decoded.{decoded}
 use Rattle.switch.specs.declared.Switch.{Switch}
 use Rattle.switch.specs.Switches.{with_level, without_port, upstream}
@@ -80,23 +81,23 @@ down_fine k out b = omega (arith, ltb-false 7 k b)
 -- ---- what a packet does
 
 module _ (s : Switch) (k : ℕ) (bytes out : List ℕ) where
-  pub message-next : (m : Fields.Message) → decoded bytes ≡ Message m → next_switch s (pass k bytes out) ≡ s
+  pub message-next : (m : Fields.Message) → decoded bytes ≡ Some (Message m) → next_switch s (pass k bytes out) ≡ s
   unfolding next_switch taking
   message-next m e = rw e
 
-  pub message-sends : (m : Fields.Message) → decoded bytes ≡ Message m → sends s (pass k bytes out) ≡ bytes
+  pub message-sends : (m : Fields.Message) → decoded bytes ≡ Some (Message m) → sends s (pass k bytes out) ≡ bytes
   unfolding sends forwarded_by forwarded next_switch taking
   message-sends m e = rw (e, no_changes, append-nil)
 
-  pub wire-next : (w : Level) → decoded bytes ≡ Wire w → next_switch s (pass k bytes out) ≡ with_level s k w.pin w.active
+  pub wire-next : (w : Level) → decoded bytes ≡ Some (Wire w) → next_switch s (pass k bytes out) ≡ with_level s k w.pin w.active
   unfolding next_switch taking
   wire-next w e = rw e
 
-  pub wire-sends : (w : Level) → decoded bytes ≡ Wire w → sends s (pass k bytes out) ≡ changes s.requester (upstream s) (upstream (with_level s k w.pin w.active))
+  pub wire-sends : (w : Level) → decoded bytes ≡ Some (Wire w) → sends s (pass k bytes out) ≡ changes s.requester (upstream s) (upstream (with_level s k w.pin w.active))
   unfolding sends forwarded_by forwarded next_switch taking
   wire-sends w e = rw e
 
-  pub other_sends : decoded bytes ≡ Other → sends s (pass k bytes out) ≡ []
+  pub other_sends : decoded bytes ≡ None → sends s (pass k bytes out) ≡ []
   unfolding sends forwarded_by forwarded next_switch taking
   other_sends e = rw (e, no_changes)
 
@@ -115,11 +116,11 @@ entry-refused s c e = ap (entry_of c) (step-refused s c e)
 
 -- ---- the shape
 
-shaped-taking : (s : Switch) (k : ℕ) (x : Packet) → Shaped s → Shaped (taking s k x)
+shaped-taking : (s : Switch) (k : ℕ) (x : Option Packet) → Shaped s → Shaped (taking s k x)
 unfolding taking
-shaped-taking s k (Message m) h = h
-shaped-taking s k (Wire w) h = shaped-level s k w.pin w.active h
-shaped-taking s k Other h = h
+shaped-taking s k (Some (Message m)) h = h
+shaped-taking s k (Some (Wire w)) h = shaped-level s k w.pin w.active h
+shaped-taking s k None h = h
 
 pub shaped-next : (s : Switch) (c : SwitchCall) → Shaped s → Shaped (next_switch s c)
 unfolding next_switch
@@ -132,11 +133,11 @@ shaped-kept s c h = step_elim s c (λ (r : Switched). Shaped r.switch) (λ _. sh
 
 -- ---- the requester ID
 
-requester-taking : (s : Switch) (k : ℕ) (x : Packet) → (taking s k x).requester ≡ s.requester
+requester-taking : (s : Switch) (k : ℕ) (x : Option Packet) → (taking s k x).requester ≡ s.requester
 unfolding taking with_level
-requester-taking s k (Message m) = refl
-requester-taking s k (Wire w) = refl
-requester-taking s k Other = refl
+requester-taking s k (Some (Message m)) = refl
+requester-taking s k (Some (Wire w)) = refl
+requester-taking s k None = refl
 
 requester-next : (s : Switch) (c : SwitchCall) → (next_switch s c).requester ≡ s.requester
 unfolding next_switch without_port

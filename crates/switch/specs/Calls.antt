@@ -1,5 +1,5 @@
 -- Document 02, request [4]: the calls of a switch, a packet from a port and a port going down, each as one total function. Assumes nothing.
-use Rattle.std.specs.Prelude.{Bool, true, not, cond, ◌||◌, List, [], ◌∷◌, ◌++◌, ℕ, ◌*◌, ◌/◌, ◌%◌, ltb, eqb, length}
+use Rattle.std.specs.Prelude.{Bool, true, not, cond, ◌||◌, List, [], ◌∷◌, ◌++◌, ℕ, ◌*◌, ◌/◌, ◌%◌, ltb, eqb, length, Option, Some, None}
 use Rattle.std.specs.Bool.{beq}
 use Rattle.words.specs.Lists.{join, count, first_of}
 use Rattle.words.specs.Writers.{over}
@@ -7,7 +7,7 @@ use Rattle.model.specs.declared.Answer.{Answer}
 use Rattle.model.specs.declared.Answer.TheVariants.{Refused, Done}
 use Rattle.model.specs.Packets.{wire_message}
 use Rattle.tlp.specs.declared.decode.Packet.{Packet}
-use Rattle.tlp.specs.declared.decode.Packet.TheVariants.{Message, Wire, Other}
+use Rattle.tlp.specs.declared.decode.Packet.TheVariants.{Message, Wire}
 use Rattle.tlp.specs.Decoded.{decoded}
 use Rattle.switch.specs.declared.Switch.{Switch}
 use Rattle.switch.specs.Switches.{with_level, without_port, upstream}
@@ -39,10 +39,10 @@ unfoldable pub device_of : (requester : ℕ) → ℕ
 device_of requester = requester / 8 % 32
 
 -- no single packet in document 01's layouts with address bits 1:0 zero, or a wire packet with a device number other than 0
-unfoldable pub bad_packet : Packet → Bool
-bad_packet (Message m) = not (eqb (m.address % 4) 0)
-bad_packet (Wire w) = not (eqb (device_of w.requester) 0)
-bad_packet Other = true
+unfoldable pub bad_packet : Option Packet → Bool
+bad_packet (Some (Message m)) = not (eqb (m.address % 4) 0)
+bad_packet (Some (Wire w)) = not (eqb (device_of w.requester) 0)
+bad_packet None = true
 
 -- or a port above 7
 unfoldable pub bad_call : SwitchCall → Bool
@@ -52,10 +52,10 @@ bad_call (down k out) = ltb 7 k
 -- ---- the switch after an accepted call
 
 -- a message leaves the wires; Assert and Deassert give the wire its level
-unfoldable pub taking : Switch → (k : ℕ) → Packet → Switch
-taking s k (Message m) = s
-taking s k (Wire w) = with_level s k w.pin w.active
-taking s k Other = s
+unfoldable pub taking : Switch → (k : ℕ) → Option Packet → Switch
+taking s k (Some (Message m)) = s
+taking s k (Some (Wire w)) = with_level s k w.pin w.active
+taking s k None = s
 
 unfoldable pub next_switch : Switch → SwitchCall → Switch
 next_switch s (pass k bytes out) = taking s k (decoded bytes)
@@ -76,10 +76,10 @@ unfoldable pub changes : (requester : ℕ) → (before after : ℕ → Bool) →
 changes requester before after = join (change_of requester before after) (count 1 4)
 
 -- message writes pass unchanged
-unfoldable pub forwarded : Packet → List ℕ → List ℕ
-forwarded (Message m) bytes = bytes
-forwarded (Wire w) bytes = []
-forwarded Other bytes = []
+unfoldable pub forwarded : Option Packet → List ℕ → List ℕ
+forwarded (Some (Message m)) bytes = bytes
+forwarded (Some (Wire w)) bytes = []
+forwarded None bytes = []
 
 unfoldable pub forwarded_by : SwitchCall → List ℕ
 forwarded_by (pass k bytes out) = forwarded (decoded bytes) bytes

@@ -1,12 +1,12 @@
 -- Document 02, request [4], last sentence: a port's wire, and what the host has heard, by the calls with their answers and the bytes sent.
 -- No switch is read here. Assumes nothing.
-use Rattle.std.specs.Prelude.{◌≡◌, Bool, true, false, cond, ◌&&◌, ℕ, zero, suc, ◌≤◌, ◌<◌, eqb, length, take, drop}
+use Rattle.std.specs.Prelude.{◌≡◌, Bool, true, false, cond, ◌&&◌, ℕ, zero, suc, ◌≤◌, ◌<◌, eqb, length, take, drop, Option, Some, None}
 use mathlib.Core.List.{List, [], ◌∷◌, foldl}
 use Rattle.model.specs.declared.Answer.{Answer}
 use Rattle.model.specs.Answers.{is_accepted}
 use Rattle.model.specs.Since.{Since}
 use Rattle.tlp.specs.declared.decode.Packet.{Packet}
-use Rattle.tlp.specs.declared.decode.Packet.TheVariants.{Message, Wire, Other}
+use Rattle.tlp.specs.declared.decode.Packet.TheVariants.{Message, Wire}
 use Rattle.tlp.specs.Decoded.{decoded, first_length}
 use Rattle.switch.specs.declared.Switch.{Switch}
 use Rattle.switch.specs.Switches.{upstream_pin}
@@ -41,15 +41,15 @@ switch_run s calls = foldl switch_called (record { switch = s; past = [] }) call
 -- ---- packets
 
 -- Assert or Deassert of pin p
-unfoldable pub is_for : (p : ℕ) → Packet → Bool
-is_for p (Message m) = false
-is_for p (Wire w) = eqb w.pin p
-is_for p Other = false
+unfoldable pub is_for : (p : ℕ) → Option Packet → Bool
+is_for p (Some (Message m)) = false
+is_for p (Some (Wire w)) = eqb w.pin p
+is_for p None = false
 
-unfoldable pub is_assert : Packet → Bool
-is_assert (Message m) = false
-is_assert (Wire w) = w.active
-is_assert Other = false
+unfoldable pub is_assert : Option Packet → Bool
+is_assert (Some (Message m)) = false
+is_assert (Some (Wire w)) = w.active
+is_assert None = false
 
 -- ---- the wire of card pin p at port k
 
@@ -95,12 +95,12 @@ pub record DrivenBy (q : ℕ) (past : SwitchPast) : Type 0 where
 -- ---- what the host has heard
 
 -- the packets that stand one after another in some bytes, at most n of them
-unfoldable pub packets_in : (n : ℕ) → List ℕ → List Packet
+unfoldable pub packets_in : (n : ℕ) → List ℕ → List (Option Packet)
 packets_in zero l = []
 packets_in (suc n) l = cond (eqb (length l) 0) [] (decoded (take (first_length l) l) ∷ packets_in n (drop (first_length l) l))
 
 -- the level of pin q by the last of some packets that is for it, or else as before them
-unfoldable pub level_after : (q : ℕ) → List Packet → (before : Bool) → Bool
+unfoldable pub level_after : (q : ℕ) → List (Option Packet) → (before : Bool) → Bool
 level_after q [] before = before
 level_after q (x ∷ l) before = level_after q l (cond (is_for q x) (is_assert x) before)
 

@@ -7,7 +7,8 @@ ghost use Rattle.switch.specs.Outcomes.{after, changed_to};
 
 use crate::Switch;
 use crate::join::upstream;
-use crate::outcome::{Outcome, accepted, refused};
+use crate::outcome::{Outcome, accepted, refuse};
+use model::refusal::Refusal;
 
 // The bytes of one wire's packet: none if the level stays.
 fn change_size(before: bool, after: bool) -> usize
@@ -63,7 +64,7 @@ pub fn send_changes(s: Switch, next: Switch, out: &mut [u8]) -> Outcome
     let before = upstream(s);
     let after = upstream(next);
     if out.len() < changes_size(before, after) {
-        return refused(s, 6);
+        return refuse(s, Refusal::Room);
     }
     let count = put_changes(out, s.requester, before, after);
     accepted(next, count)

@@ -1,11 +1,13 @@
 // What a call hands back.
 ghost use Rattle.std.specs.Prelude.{◌≡◌};
+ghost use Rattle.model.specs.Refusals.{number_of};
 ghost use Rattle.switch.specs.Outcomes.{refused_with, accepted_with};
 
 use crate::Switch;
 use model::Answer;
+use model::refusal::Refusal;
 
-// The switch after the call, its answer, and how many bytes of the output are new.
+// The switch after the call, its answer, and how many bytes of the output are new. No `Result`, as the definition `after` reads all three.
 #[derive(Clone, Copy)]
 pub struct Outcome {
     pub switch: Switch,
@@ -22,6 +24,13 @@ pub fn refused(switch: Switch, number: u8) -> Outcome
         answer: Answer::Refused(number),
         count: 0,
     }
+}
+
+// Refused for a reason.
+pub fn refuse(switch: Switch, why: Refusal) -> Outcome
+    ensures { result ≡ refused_with switch (number_of why) }
+{
+    refused(switch, why.number())
 }
 
 // Accepted: the next switch and the number of bytes.

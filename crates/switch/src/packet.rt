@@ -5,8 +5,9 @@ ghost use Rattle.switch.specs.Outcomes.{after, message_passed, wire_taken};
 
 use crate::Switch;
 use crate::change::send_changes;
-use crate::outcome::{Outcome, accepted, refused};
+use crate::outcome::{Outcome, accepted, refuse};
 use crate::state::with_level;
+use model::refusal::Refusal;
 use tlp::decode::{Level, Packet, decode};
 
 // A message write: it passes unchanged.
@@ -14,10 +15,10 @@ fn pass_message(s: Switch, address: u32, packet: &[u8], out: &mut [u8]) -> Outco
     ensures { after result out.new ≡ message_passed s address packet.now out.old }
 {
     if address % 4 != 0 {
-        return refused(s, 50);
+        return refuse(s, Refusal::PortPacket);
     }
     if out.len() < packet.len() {
-        return refused(s, 6);
+        return refuse(s, Refusal::Room);
     }
     let count = words::put::put_slice(out, packet);
     accepted(s, count)
@@ -29,7 +30,7 @@ fn pass_wire(s: Switch, port: usize, w: Level, out: &mut [u8]) -> Outcome
     ensures { after result out.new ≡ wire_taken s port w out.old }
 {
     if w.requester / 8 % 32 != 0 {
-        return refused(s, 50);
+        return refuse(s, Refusal::PortPacket);
     }
     let next = with_level(s, port, w.pin, w.active);
     send_changes(s, next, out)
@@ -40,12 +41,11 @@ pub fn pass(s: Switch, port: u64, packet: &[u8], out: &mut [u8]) -> Outcome
     ensures { after result out.new ≡ switch_step s (pass port packet.now out.old) }
 {
     if 7 < port {
-        return refused(s, 50);
+        return refuse(s, Refusal::PortPacket);
     }
-    let decoded = decode(packet);
-    match decoded {
-        Packet::Message(m) => pass_message(s, m.address, packet, out),
-        Packet::Wire(w) => pass_wire(s, port as usize, w, out),
-        Packet::Other => refused(s, 50),
+    match decode(packet) {
+        Some(Packet::Message(m)) => pass_message(s, m.address, packet, out),
+        Some(Packet::Wire(w)) => pass_wire(s, port as usize, w, out),
+        None => refuse(s, Refusal::PortPacket),
     }
 }

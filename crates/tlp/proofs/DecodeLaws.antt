@@ -1,6 +1,6 @@
 -- Ways to decode a packet. Assumes nothing.
-use mathlib.Core.Path.{◌≡◌, sym, ap, ◌∙◌}
-use mathlib.Core.Bool.{Bool, true, false}
+use mathlib.Core.Path.{◌≡◌, refl, sym, ap, ◌∙◌}
+use mathlib.Core.Bool.{Bool, true, false, cond}
 use mathlib.Core.List.{List}
 use Prim.Native.Nat.{ℕ, ◌+◌, ◌-◌, ◌≤◌, ◌<◌}
 use native.Mathlib.Omega.{arith}
@@ -14,7 +14,9 @@ use Rattle.model.specs.Packets.{message, wire_message}
 use Rattle.tlp.specs.declared.decode.Message as Fields
 use Rattle.tlp.specs.declared.decode.Level.{Level}
 use Rattle.tlp.specs.declared.decode.Packet.{Packet}
-use Rattle.tlp.specs.declared.decode.Packet.TheVariants.{Message, Wire, Other}
+use Rattle.tlp.specs.declared.decode.Packet.TheVariants.{Message, Wire}
+use Rattle.std.specs.Prelude.{Option, Some, None}
+use Rattle.std.specs.Bool.{then_some}
 use Rattle.tlp.specs.Decoded.{as_message, as_wire, decoded_wire, decoded, first_length}
 use Rattle.words.proofs.Writers.{wrote_front}
 use Rattle.words.proofs.BoolLaws.{by_test}
@@ -24,38 +26,33 @@ use Rattle.words.proofs.BoolLaws.{by_test}
 compared : (l p o o' : List ℕ) (n : ℕ) (c : Bool) → Wrote p o n o' → c ≡ same l (take n o') → c ≡ same l p
 compared l p o o' n c w t = t ∙ ap (same l) (wrote_front w)
 
-module _ (l : List ℕ) (m : Fields.Message) (o o' : List ℕ) (n : ℕ) (c : Bool)
-    (w : Wrote (message m.requester m.upper m.address m.value) o n o') (t : c ≡ same l (take n o')) where
-  pub message_is : c ≡ true → Message m ≡ as_message l m
-  unfolding as_message
-  message_is e = rw (sym (compared l _ o o' n c w t) ∙ e)
+some_if : (c : Bool) (p : Packet) → then_some c p ≡ cond c (Some p) None
+some_if true p = refl
+some_if false p = refl
 
-  pub message_other : c ≡ false → Other ≡ as_message l m
-  unfolding as_message
-  message_other e = rw (sym (compared l _ o o' n c w t) ∙ e)
+pub message_compared : (l : List ℕ) (m : Fields.Message) (u : ℕ) (c : Bool) → u ≡ m.upper → c ≡ same l (message m.requester u m.address m.value)
+    → then_some c (Message m) ≡ as_message l m
+unfolding as_message
+message_compared l m u c e t = some_if c (Message m) ∙ rw (t, e)
 
 module _ (l : List ℕ) (v : Level) (o o' : List ℕ) (n : ℕ) (c : Bool) (w : Wrote (wire_message v.requester v.pin v.active) o n o') (t : c ≡ same l (take n o')) where
-  pub wire_is : c ≡ true → Wire v ≡ as_wire l v
+  pub wire_compared : then_some c (Wire v) ≡ as_wire l v
   unfolding as_wire
-  wire_is e = rw (sym (compared l _ o o' n c w t) ∙ e)
-
-  pub wire_other : c ≡ false → Other ≡ as_wire l v
-  unfolding as_wire
-  wire_other e = rw (sym (compared l _ o o' n c w t) ∙ e)
+  wire_compared = some_if c (Wire v) ∙ rw (compared l _ o o' n c w t)
 
 -- ---- the wire's packet by its code
 
 module _ (l : List ℕ) where
-  pub code_low : byte l 7 < 0x20 → Other ≡ decoded_wire l
+  pub code_low : byte l 7 < 0x20 → None ≡ decoded_wire l
   unfolding decoded_wire
   code_low h = rw (lt-ltb (byte l 7) 0x20 h)
 
   module _ (a : 0x20 ≤ byte l 7) where
-    pub code-high : 0x27 < byte l 7 → Other ≡ decoded_wire l
+    pub code-high : 0x27 < byte l 7 → None ≡ decoded_wire l
     unfolding decoded_wire
     code-high h = rw (le-ltb (byte l 7) 0x20 a, lt-ltb 0x27 (byte l 7) h)
 
-    module _ (b : byte l 7 ≤ 0x27) (requester : ℕ) (e : requester ≡ high16 l 4) (r : Packet) where
+    module _ (b : byte l 7 ≤ 0x27) (requester : ℕ) (e : requester ≡ high16 l 4) (r : Option Packet) where
       pub code-assert : byte l 7 < 0x24 → r ≡ as_wire l (record { requester = requester; pin = byte l 7 - 0x1f; active = true }) → r ≡ decoded_wire l
       unfolding decoded_wire
       code-assert h q = rw (le-ltb (byte l 7) 0x20 a, le-ltb 0x27 (byte l 7) b, lt-ltb (byte l 7) 0x24 h, sym e) q
@@ -67,11 +64,11 @@ module _ (l : List ℕ) where
 -- ---- any packet
 
 module _ (l : List ℕ) where
-  pub too_short : length l < 16 → Other ≡ decoded l
+  pub too_short : length l < 16 → None ≡ decoded l
   unfolding decoded
   too_short h = rw (lt-ltb (length l) 16 h)
 
-  module _ (a : 16 ≤ length l) (r : Packet) where
+  module _ (a : 16 ≤ length l) (r : Option Packet) where
     pub by-wire : byte l 0 ≡ 0x34 → r ≡ decoded_wire l → r ≡ decoded l
     unfolding decoded
     by-wire h q = rw (le-ltb (length l) 16 a, eq-eqb (byte l 0) 0x34 h) q

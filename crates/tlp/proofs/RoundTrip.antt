@@ -19,7 +19,8 @@ use Rattle.model.proofs.Vectors.PacketLaws.{message-length, wire-length}
 use Rattle.tlp.specs.declared.decode.Message as Fields
 use Rattle.tlp.specs.declared.decode.Level.{Level}
 use Rattle.tlp.specs.declared.decode.Packet.{Packet}
-use Rattle.tlp.specs.declared.decode.Packet.TheVariants.{Message, Wire, Other}
+use Rattle.tlp.specs.declared.decode.Packet.TheVariants.{Message, Wire}
+use Rattle.std.specs.Prelude.{Option, Some, None}
 use Rattle.tlp.specs.Decoded.{as_message, as_wire, decoded_wire, decoded, first_length}
 use Rattle.tlp.proofs.DecodeLaws.{by-wire, code-assert, code-deassert, by-short, by-long}
 
@@ -108,11 +109,11 @@ module _ (requester upper address value : ℕ) (some : eqb upper 0 ≡ false) wh
 
 -- ---- a packet's bytes decode to its fields
 
-is_message : (l : List ℕ) (m : Fields.Message) → l ≡ message_of m → Message m ≡ as_message l m
+is_message : (l : List ℕ) (m : Fields.Message) → l ≡ message_of m → Some (Message m) ≡ as_message l m
 unfolding as_message
 is_message l m e = rw (e, same_refl)
 
-is_wire : (l : List ℕ) (w : Level) → l ≡ wire_of w → Wire w ≡ as_wire l w
+is_wire : (l : List ℕ) (w : Level) → l ≡ wire_of w → Some (Wire w) ≡ as_wire l w
 unfolding as_wire
 is_wire l w e = rw (e, same_refl)
 
@@ -121,12 +122,12 @@ module _ (requester pin : ℕ) (first : 1 ≤ pin) (last : pin ≤ 4) where
   level_of active = record { requester = requester % 65536; pin = pin; active = active }
 
   read_as : (l : List ℕ) (active : Bool) (p : ℕ) → l ≡ wire_message requester pin active → p ≡ pin
-      → Wire (level_of active) ≡ as_wire l (record { requester = requester % 65536; pin = p; active = active })
+      → Some (Wire (level_of active)) ≡ as_wire l (record { requester = requester % 65536; pin = p; active = active })
   read_as l active p e q =
       is_wire l (level_of active) (e ∙ sym (wire_remainder requester pin active))
       ∙ ap (λ (x : ℕ). as_wire l (record { requester = requester % 65536; pin = x; active = active })) (sym q)
 
-  wire_read : (active : Bool) → Wire (level_of active) ≡ decoded_wire (wire_message requester pin active)
+  wire_read : (active : Bool) → Some (Wire (level_of active)) ≡ decoded_wire (wire_message requester pin active)
   wire_read true =
       let l = wire_message requester pin true in
       let c : byte l 7 ≡ 0x1f + pin = wire-code requester pin true in
@@ -140,17 +141,17 @@ module _ (requester pin : ℕ) (first : 1 ≤ pin) (last : pin ≤ 4) where
 
 -- the wire's packet of a pin 1 to 4 and a level is read back with the low 16 bits of its requester ID
 pub wire_decodes : (requester pin : ℕ) (active : Bool) → 1 ≤ pin → pin ≤ 4
-    → decoded (wire_message requester pin active) ≡ Wire (record { requester = requester % 65536; pin = pin; active = active })
+    → decoded (wire_message requester pin active) ≡ Some (Wire (record { requester = requester % 65536; pin = pin; active = active }))
 wire_decodes requester pin active first last =
     sym (by-wire (wire_message requester pin active) (omega (arith, wire-length requester pin active)) _ (rw wire-bytes) (wire_read requester pin first last active))
 
 -- a message write is read back with all its fields
 pub message_decodes : (requester upper address value : ℕ) → requester < 2 ^ 16 → upper < 2 ^ 32 → address < 2 ^ 32 → value < 2 ^ 32
-    → decoded (message requester upper address value) ≡ Message (record { requester = requester; upper = upper; address = address; value = value })
+    → decoded (message requester upper address value) ≡ Some (Message (record { requester = requester; upper = upper; address = address; value = value }))
 message_decodes requester upper address value r u a v =
     by_test (eqb upper 0) (λ e. rw (eqb-true upper 0 e) short) long
   where
-    short : decoded (message requester 0 address value) ≡ Message (record { requester = requester; upper = 0; address = address; value = value })
+    short : decoded (message requester 0 address value) ≡ Some (Message (record { requester = requester; upper = 0; address = address; value = value }))
     short =
         let l = message requester 0 address value in
         let n : length l ≡ 16 = rw short-bytes in
@@ -160,7 +161,7 @@ message_decodes requester upper address value r u a v =
         (sym (short-value requester address value ∙ mod-eq_of_lt v))
         (is_message l _ refl))
 
-    long : eqb upper 0 ≡ false → decoded (message requester upper address value) ≡ Message (record { requester = requester; upper = upper; address = address; value = value })
+    long : eqb upper 0 ≡ false → decoded (message requester upper address value) ≡ Some (Message (record { requester = requester; upper = upper; address = address; value = value }))
     long e =
         let l = message requester upper address value in
         let n : length l ≡ 20 = rw (long-bytes requester upper address value e) in
@@ -189,10 +190,10 @@ pub record IsWire (l : List ℕ) (w : Level) : Type 0 where
   pub last : w.pin ≤ 4
 
 -- what the decoder says of bytes is so of them
-unfoldable Reads : List ℕ → Packet → Type 0
-Reads l (Message m) = IsMessage l m
-Reads l (Wire w) = IsWire l w
-Reads l Other = Unit
+unfoldable Reads : List ℕ → Option Packet → Type 0
+Reads l (Some (Message m)) = IsMessage l m
+Reads l (Some (Wire w)) = IsWire l w
+Reads l None = Unit
 
 as-message : (l : List ℕ) (m : Fields.Message) → (l ≡ message_of m → IsMessage l m) → Reads l (as_message l m)
 unfolding Reads as_message
@@ -260,12 +261,12 @@ module _ (l : List ℕ) where
       (λ n. as-message l _ (long-fields (high16 l 4) (high32 l 8) (high32 l 12) (word32 l 16) (ltb-false (length l) 20 n) refl refl refl refl))))
 
 -- bytes that decode to a message write are its bytes, and its fields have 16 and 32 bits
-pub decoded-message : (l : List ℕ) (m : Fields.Message) → decoded l ≡ Message m → IsMessage l m
+pub decoded-message : (l : List ℕ) (m : Fields.Message) → decoded l ≡ Some (Message m) → IsMessage l m
 unfolding Reads
 decoded-message l m e = subst (Reads l) e (decoded-reads l)
 
 -- bytes that decode to a wire packet are its bytes, and its pin is 1 to 4
-pub decoded-wire : (l : List ℕ) (w : Level) → decoded l ≡ Wire w → IsWire l w
+pub decoded-wire : (l : List ℕ) (w : Level) → decoded l ≡ Some (Wire w) → IsWire l w
 unfolding Reads
 decoded-wire l w e = subst (Reads l) e (decoded-reads l)
 

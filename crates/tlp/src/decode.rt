@@ -23,107 +23,82 @@ pub struct Level {
 pub enum Packet {
     Message(Message),
     Wire(Level),
-    Other,
 }
 
 // The message with these fields, if the bytes are its bytes.
-fn as_message(s: &[u8], m: Message) -> Packet
+fn as_message(s: &[u8], m: Message) -> Option<Packet>
     ensures { result ≡ as_message s.now m }
 {
-    let mut again = [0u8; 20];
-    let n = crate::put_message(&mut again, m.requester, m.upper, m.address, m.value);
-    if words::compare::same(s, &again[..n]) {
-        return Packet::Message(m);
+    if m.upper == 0 {
+        return words::compare::same(s, &crate::write32::bytes(m)).then_some(Packet::Message(m));
     }
-    Packet::Other
+    words::compare::same(s, &crate::write64::bytes(m)).then_some(Packet::Message(m))
 }
 
 // The wire's packet with this pin and level, if the bytes are its bytes.
-fn as_wire(s: &[u8], l: Level) -> Packet
+fn as_wire(s: &[u8], l: Level) -> Option<Packet>
     requires { l.pin ≤ 4 }
     ensures { result ≡ as_wire s.now l }
 {
     let mut again = [0u8; 16];
-    let n = crate::put_wire(&mut again, l.requester, l.pin, l.active);
-    if words::compare::same(s, &again[..n]) {
-        return Packet::Wire(l);
-    }
-    Packet::Other
+    let n = l.put(&mut again);
+    words::compare::same(s, &again[..n]).then_some(Packet::Wire(l))
 }
 
 // The fields of a wire's packet: the code is 1Fh + pin, or 23h + pin.
-fn decode_wire(s: &[u8]) -> Packet
+fn decode_wire(s: &[u8]) -> Option<Packet>
     requires { 16 ≤ length s.now }
     ensures { result ≡ decoded_wire s.now }
 {
     let requester = words::get::high16(s, 4);
-    let code = s[7];
-    if code < 0x20 {
-        return Packet::Other;
-    }
-    if 0x27 < code {
-        return Packet::Other;
-    }
-    if code < 0x24 {
-        let level = Level {
-            requester,
-            pin: code - 0x1f,
-            active: true,
-        };
-        return as_wire(s, level);
-    }
-    let level = Level {
-        requester,
-        pin: code - 0x23,
-        active: false,
+    let (pin, active) = match s[7] {
+        code @ 0x20..=0x23 => (code - 0x1f, true),
+        code @ 0x24..=0x27 => (code - 0x23, false),
+        _ => return None,
     };
-    as_wire(s, level)
+    as_wire(
+        s,
+        Level {
+            requester,
+            pin,
+            active,
+        },
+    )
 }
 
 // The packet that the bytes are. Its fields are read off, then compared with the packet that they make.
-pub fn decode(s: &[u8]) -> Packet
+pub fn decode(s: &[u8]) -> Option<Packet>
     ensures { result ≡ decoded s.now }
 {
     if s.len() < 16 {
-        return Packet::Other;
+        return None;
     }
     if s[0] == 0x34 {
         return decode_wire(s);
     }
     let requester = words::get::high16(s, 4);
-    if s.len() < 20 {
-        let address = words::get::high32(s, 8);
-        let value = words::get::word32(s, 12);
-        return as_message(
-            s,
-            Message {
-                requester,
-                upper: 0,
-                address,
-                value,
-            },
-        );
-    }
-    let upper = words::get::high32(s, 8);
-    let address = words::get::high32(s, 12);
-    let value = words::get::word32(s, 16);
-    as_message(
-        s,
+    let message = if s.len() < 20 {
         Message {
             requester,
-            upper,
-            address,
-            value,
-        },
-    )
+            upper: 0,
+            address: words::get::high32(s, 8),
+            value: words::get::word32(s, 12),
+        }
+    } else {
+        Message {
+            requester,
+            upper: words::get::high32(s, 8),
+            address: words::get::high32(s, 12),
+            value: words::get::word32(s, 16),
+        }
+    };
+    as_message(s, message)
 }
 
 // How many bytes the first of some packets has: 20 where its first byte is 60h, else 16, and at most all.
 pub fn first_length(s: &[u8]) -> usize
     ensures { result ≡ first_length s.now }
 {
-    if words::parts::byte_at(s, 0) == 0x60 {
-        return words::parts::clipped(20, s);
-    }
-    words::parts::clipped(16, s)
+    let four_words = words::parts::byte_at(s, 0) == 0x60;
+    words::parts::clipped(if four_words { 20 } else { 16 }, s)
 }

@@ -7,3 +7,4 @@ pub mod MsixLaws
 pub mod EntryLaws
 pub mod OpenLaws
 pub mod MessageLaws
+pub mod ModeLaws

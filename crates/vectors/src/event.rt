@@ -8,24 +8,18 @@ ghost use Rattle.vectors.specs.Mapping.{vector_in};
 use crate::granted::granted;
 use model::{Event, Mode, Shape, Vector};
 
-#[derive(Clone, Copy)]
-pub enum Meant {
-    Nothing,
-    One(Vector),
-}
-
 // Under MSI-X event e means vector e; under MSI, vector e mod granted; under the pin, no vector.
-pub fn event_vector(c: &[u8; 256], s: Shape, m: Mode, e: Event) -> Meant
+pub fn event_vector(c: &[u8; 256], s: Shape, m: Mode, e: Event) -> Option<Vector>
     requires { FitShape s }
     ensures { (t : List ℕ) → vector_in result ≡ vector_of m s (regs c.now t) e.0 }
 {
     let n = e.0;
     match m {
-        Mode::Pin => Meant::Nothing,
+        Mode::Pin => None,
         Mode::Msi => {
             let v = ((n as u32) % granted(c, s)) as u16;
-            Meant::One(Vector(v))
+            Some(Vector(v))
         }
-        Mode::Msix => Meant::One(Vector(n)),
+        Mode::Msix => Some(Vector(n)),
     }
 }

@@ -14,7 +14,7 @@ fn granted_log(c: &[u8; 256], s: Shape) -> usize
     let at = s.msi.at + 2;
     let enable = (c[at] / 16 % 8) as usize;
     let capable = s.msi.capable;
-    if enable < capable { enable } else { capable }
+    enable.min(capable)
 }
 
 // 1, 2, 4, 8, 16 or 32.

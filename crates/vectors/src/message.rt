@@ -79,9 +79,8 @@ pub fn msi_message(c: &[u8; 256], s: Shape, f: Form, v: Vector) -> Message
 {
     let base = msi_base(c, s, f);
     Message {
-        upper: base.upper,
-        address: base.address,
         value: base.value + (v.0 as u32),
+        ..base
     }
 }
 
@@ -111,8 +110,7 @@ pub fn vector_message(c: &[u8; 256], k: Profile, table: &[u8], v: Vector) -> Mes
     ensures { (requester : ℕ)
         → message requester result.upper result.address result.value ≡ message_of k.mode k.shape requester (regs c.now table.now) v.0 }
 {
-    let mode = k.mode;
-    match mode {
+    match k.mode {
         Mode::Pin => Message {
             upper: 0,
             address: 0,

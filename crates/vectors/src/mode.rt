@@ -17,6 +17,7 @@ fn config_bit(c: &[u8; 256], at: usize, k: usize) -> bool
     words::bits::bit(c[at + k / 8], k % 8)
 }
 
+// The bits of three registers stay three functions, since each contract says its definition's word; `config_bit` is the one body.
 pub fn command_bit(c: &[u8; 256], k: usize) -> bool
     requires { k < 16 }
     ensures { (t : List ℕ) → result ≡ command_bit (regs c.now t) k }
@@ -77,19 +78,11 @@ pub fn mode(c: &[u8; 256], s: Shape) -> Mode
 pub fn is_pin(m: Mode) -> bool
     ensures { result ≡ is_pin m }
 {
-    match m {
-        Mode::Pin => true,
-        Mode::Msi => false,
-        Mode::Msix => false,
-    }
+    m == Mode::Pin
 }
 
 pub fn is_msix(m: Mode) -> bool
     ensures { result ≡ same_mode Mode.Msix m }
 {
-    match m {
-        Mode::Pin => false,
-        Mode::Msi => false,
-        Mode::Msix => true,
-    }
+    m == Mode::Msix
 }

@@ -11,8 +11,8 @@ use crate::mode::command_bit;
 use model::{Form, Mode, Shape, Vector};
 
 // The mask register, 0 without masks.
-fn masks(c: &[u8], s: Shape, f: Form) -> u32
-    requires { FitShape s × (length c.now ≡ 256) × (f ≡ form_of s) }
+fn masks(c: &[u8; 256], s: Shape, f: Form) -> u32
+    requires { FitShape s × (f ≡ form_of s) }
     ensures { (t : List ℕ) (v : ℕ) → v < 32 → bit result v ≡ masked Mode.Msi s (regs c.now t) v }
 {
     if !s.msi.masks {

@@ -13,8 +13,7 @@ pub fn is_open(c: &[u8; 256], k: Profile, table: &[u8], v: Vector) -> bool
     requires { Profiled c.now k × (length table.now ≡ table_bytes k.shape) }
     ensures { result ≡ is_open k.mode k.shape (regs c.now table.now) v.0 }
 {
-    let mode = k.mode;
-    match mode {
+    match k.mode {
         Mode::Pin => false,
         Mode::Msi => msi_is_open(c, k.shape, k.form, v),
         Mode::Msix => msix_is_open(c, k.shape, table, v),

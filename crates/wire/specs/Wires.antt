@@ -1,5 +1,5 @@
 -- The level of the wire by its small state, and the packet that a change of it owes. Assumes nothing.
-use Rattle.std.specs.Prelude.{Bool, true, false, cond, List, [], ℕ}
+use Rattle.std.specs.Prelude.{Bool, cond, List, [], ℕ, Option, None, Some}
 use Rattle.std.specs.Bool.{beq}
 use Rattle.model.specs.declared.Mode.{Mode}
 use Rattle.model.specs.Packets.{wire_message}
@@ -9,16 +9,18 @@ use Rattle.model.specs.Vectors.{mode_of, command_bit}
 use Rattle.model.specs.Release.{pin_number, level_due}
 use Rattle.wire.specs.declared.Wiring.{Wiring}
 use Rattle.wire.specs.declared.Wired.{Wired}
-use Rattle.wire.specs.declared.Owed.{Owed}
-use Rattle.wire.specs.declared.Owed.TheVariants.{Nothing, Assert, Deassert}
 
 -- the level that the wire should have
 abbrev pub due_of : Wiring → Bool
 due_of w = level_due w.line w.mode w.pin w.disabled
 
+-- the level that the packet owed tells, if one is owed
+abbrev pub Owed : Type 0
+Owed = Option Bool
+
 -- the packet of a change of level
 unfoldable pub owed_of : (before level : Bool) → Owed
-owed_of before level = cond (beq before level) Nothing (cond level Assert Deassert)
+owed_of before level = cond (beq before level) None (Some level)
 
 abbrev pub wiring : Bool → Bool → Mode → ℕ → Bool → Wiring
 wiring line wire mode pin disabled = record { line = line; wire = wire; mode = mode; pin = pin; disabled = disabled }
@@ -41,11 +43,9 @@ with_mode w mode disabled =
     with_level next (due_of next)
 
 unfoldable pub bytes_owed : Owed → (requester pin : ℕ) → List ℕ
-bytes_owed Nothing requester pin = []
-bytes_owed Assert requester pin = wire_message requester pin true
-bytes_owed Deassert requester pin = wire_message requester pin false
+bytes_owed None requester pin = []
+bytes_owed (Some level) requester pin = wire_message requester pin level
 
 unfoldable pub size_of : Owed → ℕ
-size_of Nothing = 0
-size_of Assert = 16
-size_of Deassert = 16
+size_of None = 0
+size_of (Some level) = 16

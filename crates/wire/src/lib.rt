@@ -17,13 +17,8 @@ pub struct Wiring {
     pub disabled: bool,
 }
 
-// The packet owed.
-#[derive(Clone, Copy)]
-pub enum Owed {
-    Nothing,
-    Assert,
-    Deassert,
-}
+// The level that the packet owed tells, if one is owed.
+pub type Owed = Option<bool>;
 
 // The state with the packet owed.
 #[derive(Clone, Copy)]
@@ -37,44 +32,21 @@ impl Wiring {
     pub fn due(self) -> bool
         ensures { result ≡ due_of self }
     {
-        if !self.line {
-            return false;
-        }
-        if self.pin == 0 {
-            return false;
-        }
-        if self.disabled {
-            return false;
-        }
-        let mode = self.mode;
-        match mode {
-            Mode::Pin => true,
-            Mode::Msi => false,
-            Mode::Msix => false,
-        }
+        self.line && self.mode == Mode::Pin && self.pin != 0 && !self.disabled
     }
 
     // The wire goes to a level: a packet is owed if it had the other one.
+    #[tactic(auto, unfolding(crate::specs::Wires::owed_of))]
     pub fn set_wire(mut self, level: bool) -> Wired
         ensures { result ≡ with_level self level }
     {
-        if self.wire == level {
-            return Wired {
-                wiring: self,
-                owed: Owed::Nothing,
-            };
-        }
+        let owed = if self.wire == level {
+            None
+        } else {
+            Some(level)
+        };
         self.wire = level;
-        if level {
-            return Wired {
-                wiring: self,
-                owed: Owed::Assert,
-            };
-        }
-        Wired {
-            wiring: self,
-            owed: Owed::Deassert,
-        }
+        Wired { wiring: self, owed }
     }
 
     // The line goes to a level, and the wire to the one that it should have.
@@ -90,37 +62,32 @@ impl Wiring {
     pub fn set_mode(mut self, mode: Mode, disabled: bool) -> Wired
         ensures { result ≡ with_mode self mode disabled }
     {
-        let next = Wiring {
-            line: self.line,
-            wire: self.wire,
-            mode,
-            pin: self.pin,
-            disabled,
-        };
-        let due = next.due();
-        next.set_wire(due)
+        self.mode = mode;
+        self.disabled = disabled;
+        let due = self.due();
+        self.set_wire(due)
     }
 }
 
 // The bytes of the packet owed.
+#[tactic(auto, unfolding(crate::specs::Wires::size_of))]
 pub fn owed_size(owed: Owed) -> usize
     ensures { result ≡ size_of owed }
 {
     match owed {
-        Owed::Nothing => 0,
-        Owed::Assert => 16,
-        Owed::Deassert => 16,
+        None => 0,
+        Some(_) => 16,
     }
 }
 
 // The packet owed, written to the start of the output.
+#[tactic(auto, unfolding(crate::specs::Wires::size_of, crate::specs::Wires::bytes_owed))]
 pub fn put_owed(out: &mut [u8], owed: Owed, requester: u16, pin: u8) -> usize
     requires { (pin ≤ 4) × (size_of owed ≤ length out.old) }
     ensures { Wrote (bytes_owed owed requester pin) out.old result out.new }
 {
     match owed {
-        Owed::Nothing => 0,
-        Owed::Assert => tlp::put_wire(out, requester, pin, true),
-        Owed::Deassert => tlp::put_wire(out, requester, pin, false),
+        None => 0,
+        Some(level) => tlp::put_wire(out, requester, pin, level),
     }
 }

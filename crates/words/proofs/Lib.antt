@@ -5,9 +5,11 @@ pub mod ListLaws
 pub mod ElementLaws
 pub mod PartLaws
 pub mod ByteLaws
+pub mod Endian
 pub mod BytesLaws
 pub mod NumberLaws
 pub mod PutLaws
+pub mod ReadLaws
 pub mod LowestLaws
 pub mod ShiftLaws
 pub mod OnesLaws

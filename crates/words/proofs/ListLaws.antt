@@ -10,6 +10,7 @@ use lib.Dec.{ltb, leb, eqb}
 use lib.ListN.{length, drop, get_or, length-append, length-map, drop_of_length-le, get_or-append}
 use lib.Seq.{drop-cons, ext_get_or, get_or-append-add}
 use borrow.Author.Tests.{eq-eqb, ne_eqb, eqb-true, eqb-false, lt-ltb, le-ltb, le-leb, ltb-true, ltb-false, leb-true}
+use Rattle.std.specs.Prelude.{bytes_eq}
 use Rattle.words.specs.Lists.{count, keep, all, any, member, join, each_at, all_at, same, within}
 use Rattle.words.specs.Bytes.{byte}
 use Rattle.words.proofs.BoolLaws.{both, and_intro, same_test, by_test}
@@ -447,6 +448,14 @@ same-past l m i h j = rw (drop_of_length-le l {i = i} h, drop_of_length-le m {i 
 
 pub other_lengths : (l m : List ℕ) → (length l ≡ length m → ⊥) → false ≡ same l m
 other_lengths l m n = same_test false (same l m) (λ e. absurd (false≢true e)) (λ e. absurd (n (ap length (same_true l m e))))
+
+-- the library's equality of bytes
+pub same-bytes_eq : (l m : List ℕ) → bytes_eq l m ≡ same l m
+unfolding same
+same-bytes_eq [] [] = refl
+same-bytes_eq [] (y ∷ m) = refl
+same-bytes_eq (x ∷ l) [] = refl
+same-bytes_eq (x ∷ l) (y ∷ m) = ap (λ (b : Bool). eqb x y && b) (same-bytes_eq l m)
 
 -- ---- a test that one number at most passes
 

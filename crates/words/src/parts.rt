@@ -1,16 +1,13 @@
 // Parts of byte slices, clipped to what there is.
-ghost use Rattle.std.specs.Prelude.{◌≡◌, take, drop};
-ghost use Rattle.words.specs.Bytes.{byte};
+ghost use Rattle.std.specs.Prelude.{◌≡◌, ◌+◌, ◌≤◌, length, take, drop};
+ghost use Rattle.words.specs.Bytes.{byte, part};
 ghost use Rattle.words.specs.Writers.{Clips};
 
 // A number of bytes, and at most all.
 pub fn clipped(count: usize, s: &[u8]) -> usize
     ensures { Clips count s.now result }
 {
-    if count <= s.len() {
-        return count;
-    }
-    s.len()
+    count.min(s.len())
 }
 
 // The bytes from a place on, so many.
@@ -27,8 +24,15 @@ pub fn part(s: &[u8], place: usize, size: usize) -> &[u8]
 pub fn byte_at(s: &[u8], at: usize) -> u8
     ensures { result ≡ byte s.now at }
 {
-    if at < s.len() {
-        return s[at];
-    }
-    0
+    s.get(at).copied().unwrap_or(0)
+}
+
+// The N bytes from a place on.
+pub fn array_at<const N: usize>(s: &[u8], at: usize) -> [u8; N]
+    requires { at + N ≤ length s.now }
+    ensures { result ≡ part at N s.now }
+{
+    let mut bytes = [0u8; N];
+    bytes.copy_from_slice(&s[at..at + N]);
+    bytes
 }

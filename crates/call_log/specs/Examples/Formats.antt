@@ -6,13 +6,13 @@ use Rattle.model.specs.Calls.{config_read, config_write, bar_read, bar_write, ev
 use Rattle.call_log.specs.declared.Record.{Record}
 use Rattle.call_log.specs.declared.Record.TheVariants.{Event, Line, ConfigWrite, BarWrite, Reset}
 use Rattle.call_log.specs.Logs.{header, size_of, bytes_in, record_in, call_of, record_of}
-use Rattle.call_log.specs.Players.{fresh, between, advanced}
+use Rattle.call_log.specs.Players.{fresh, between, refusal_at, due_at, advanced}
 use Rattle.call_log.specs.Examples.Parts.{mark, event_bytes, line_bytes, config_bytes, bar_bytes, reset_bytes, equal, record_fields, call_fields}
 
 -- ---- how many bytes the first call of a player takes, and its refusal
 
 abbrev taking : (bytes : List ℕ) → (taken refusal : ℕ) → List (ℕ × ℕ)
-taking bytes taken refusal = (taken, (advanced fresh bytes).taken) ∷ (refusal, (advanced fresh bytes).refusal) ∷ []
+taking bytes taken refusal = (taken, (advanced fresh bytes).taken) ∷ (refusal, refusal_at (advanced fresh bytes).end) ∷ []
 
 -- "CLG": 43h, 4Ch, 47h, and their neighbours. "The first wrong byte of mark, version, kind or line is refusal 30; it and all after it are not taken"
 abbrev pub marks : List (ℕ × ℕ)
@@ -46,7 +46,7 @@ levels =
 -- ---- how many bytes a record has: a call takes just these, and with one byte less no record is due
 
 abbrev is_due : (bytes : List ℕ) → ℕ
-is_due bytes = of_bool (advanced (between 0) bytes).due
+is_due bytes = of_bool (due_at (advanced (between 0) bytes).end)
 
 abbrev of_size : (kind size : ℕ) → List (ℕ × ℕ)
 of_size kind size =

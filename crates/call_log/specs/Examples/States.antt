@@ -3,8 +3,8 @@ use Rattle.std.specs.Prelude.{List, [], ◌∷◌, ◌++◌, ℕ, replicate, tak
 use Rattle.words.specs.Bits.{of_bool}
 use Rattle.call_log.specs.declared.Stage.TheVariants.{Header, Records, Again}
 use Rattle.call_log.specs.declared.Player.{Player}
-use Rattle.call_log.specs.declared.Advanced.{Advanced}
-use Rattle.call_log.specs.Players.{player_of, no_part, fresh, between, broken, counted, advanced}
+use Rattle.call_log.specs.declared.Scanned.{Scanned}
+use Rattle.call_log.specs.Players.{player_of, no_part, fresh, between, broken, counted, refusal_at, due_at, advanced}
 use Rattle.call_log.specs.Plays.{play_of}
 use Rattle.call_log.specs.Examples.Parts.{mark, event_bytes, line_bytes, bar_bytes, reset_bytes, equal, player_fields, counting}
 
@@ -29,13 +29,13 @@ event_part = event_bytes ++ replicate 12 0
 -- with one byte: how many it takes, and whether a record is due
 abbrev goes_on : Player → (b taken due : ℕ) → List (ℕ × ℕ)
 goes_on p b taken due =
-    let a : Advanced = advanced p (b ∷ []) in
-    (taken, a.taken) ∷ (0, a.refusal) ∷ (due, of_bool a.due) ∷ []
+    let a : Scanned = advanced p (b ∷ []) in
+    (taken, a.taken) ∷ (0, refusal_at a.end) ∷ (due, of_bool (due_at a.end)) ∷ []
 
 abbrev stops : Player → List (ℕ × ℕ)
 stops p =
-    let a : Advanced = advanced p reset_bytes in
-    (0, a.taken) ∷ (30, a.refusal) ∷ (0, of_bool a.due) ∷ equal (player_fields p) (player_fields a.player) ∷ []
+    let a : Scanned = advanced p reset_bytes in
+    (0, a.taken) ∷ (30, refusal_at a.end) ∷ (0, of_bool (due_at a.end)) ∷ equal (player_fields p) (player_fields a.player) ∷ []
 
 -- five bytes of a header, all bytes of a record, no kind; to be tried again with other than all bytes of a record, or with a level that is none
 abbrev pub strays : List (ℕ × ℕ)

@@ -15,7 +15,7 @@ use Rattle.bar_access.proofs.bar_write.bar_write_core.Tie as tie
 
 returns : tie.Need-returns-then-bad_bar
 returns c =
-    bar_refused _ _ _ _ c.requires _ _ _ _ (bar_writes _ _) _ (sym c.bad_bar.ensures ∙ c.if-bad_bar.true) c.refused.ensures
+    bar_refused _ _ _ _ c.requires _ _ _ _ (bar_writes _ _) _ (sym c.bad_bar.ensures ∙ c.if-bad_bar.true) c.refuse.ensures
 
 -- row 4 does not apply
 module _ (c : tie.Else-bad_bar) where
@@ -28,7 +28,7 @@ module _ (c : tie.Else-bad_bar) where
 returns-2 : tie.Need-returns-then-not-command_bit
 returns-2 c =
     bar-no-memory _ _ _ _ c.requires _ _ _ _ (bar_writes _ _) _ (passed c.before.before.before.before)
-    (sym (c.command_bit.ensures _) ∙ c.if-not-command_bit.true) c.refused-then-not-command_bit.ensures
+    (sym (c.command_bit.ensures _) ∙ c.if-not-command_bit.true) c.refuse-then-not-command_bit.ensures
 
 -- nor row 5
 module _ (c : tie.Else-not-command_bit) where

@@ -1,9 +1,8 @@
 -- One law for each stage of a player that goes on. Assumes nothing.
 use mathlib.Core.Path.{sym, ◌∙◌}
-use native.Mathlib.Omega.{arith}
 use Rattle.call_log.specs.declared.Stage.TheVariants.{Header, Records}
 use Rattle.call_log.proofs.ScanLaws.{from_start}
-use Rattle.call_log.proofs.PlayerLaws.{advance_stands, advance_scans, header_scans, records-scan, advance_again, advance_broken, in_header, in_records}
+use Rattle.call_log.proofs.PlayerLaws.{advance_stands, advance_scans, header_scans, records-scan, advance_again, advance_broken, in_header}
 use Rattle.call_log.proofs.advance.advance.Goals as goal
 
 pub returns-then-not-is_playing : goal.returns-then-not-is_playing
@@ -14,11 +13,6 @@ pub scan_header-requires : goal.scan_header-requires
 scan_header-requires c =
     let plays = sym c.is_playing.ensures ∙ c.if-not-is_playing.false in
     in_header c.args.player c.args.log.now plays c.in-Header.is
-
-pub scan_record-requires : goal.scan_record-requires
-scan_record-requires c =
-    let plays = sym c.is_playing.ensures ∙ c.if-not-is_playing.false in
-    (in_records c.args.player c.args.log.now plays c.in-Records.is, omega arith)
 
 pub returns-in-Header : goal.returns-in-Header
 returns-in-Header c =

@@ -1,8 +1,5 @@
-use mathlib.Core.Path.{refl}
-use Rattle.words.specs.Bytes.{bytes_of}
-use Rattle.call_log.specs.Logs.{bytes_in}
+use Rattle.call_log.proofs.FormatLaws.{le_config}
 use Rattle.call_log.proofs.recorder.config_write_bytes.Goals as goal
 
 pub returns : goal.returns
-unfolding bytes_in bytes_of
-returns c = refl
+returns c = rw (c.to_le_bytes.ensures, c.to_le_bytes-2.ensures) (le_config c.args.offset c.args.width c.args.value)

@@ -3,7 +3,7 @@ use Rattle.capi.proofs.CrossingFor.{restore-stops, restore-reads, restores-back}
 use Rattle.capi.proofs.images.musgarento_restore.Goals as goal
 
 pub returns-then-card-ne-CARD : goal.returns-then-card-ne-CARD
-returns-then-card-ne-CARD c = restore-stops _ _ _ _ c.if-card-ne-CARD.true
+returns-then-card-ne-CARD c = rw c.number.ensures (restore-stops _ _ _ _ c.if-card-ne-CARD.true)
 
 pub hand_back-numbers-requires : goal.hand_back-numbers-requires
 hand_back-numbers-requires c =

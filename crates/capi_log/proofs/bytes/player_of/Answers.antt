@@ -5,4 +5,4 @@ use Rattle.capi_log.proofs.bytes.player_of.Goals as goal
 pub returns : goal.returns
 unfolding player_in
 returns c =
-    λ i. player_of (c.stage_of-stage.ensures i) (c.wide-taken.ensures i) (c.part_of-held.ensures i) (c.word64.ensures i)
+    λ i. player_of (c.from.ensures i) (c.from-2.ensures i) (c.array_at.ensures i) (c.word64.ensures i)

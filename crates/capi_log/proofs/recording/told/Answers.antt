@@ -1,6 +1,10 @@
-use mathlib.Core.Path.{refl, ap}
-use Rattle.capi.specs.declared.bytes.Numbers.{Numbers}
+use Rattle.model.specs.Answers.{refusal_of}
 use Rattle.capi_log.proofs.recording.told.Goals as goal
 
-pub returns : goal.returns
-returns c = (ap (λ (n : Numbers). n.refusal) c.numbers_of-numbers.ensures, refl)
+pub returns-in-Ok : goal.returns-in-Ok
+unfolding refusal_of
+returns-in-Ok c = rw c.in-Ok.is
+
+pub returns-in-Err : goal.returns-in-Err
+unfolding refusal_of
+returns-in-Err c = rw c.in-Err.is

@@ -6,4 +6,4 @@ slice_bounds-decode-end c = first_part _ _ c.first_length-count.ensures
 
 pub returns : goal.returns
 returns c =
-    first-told _ _ _ _ c.first_length-count.ensures c.decode-packet.ensures c.fields_of.ensures
+    first-told _ _ _ _ c.first_length-count.ensures c.decode.ensures c.fields_of.ensures

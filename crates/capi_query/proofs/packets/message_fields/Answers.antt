@@ -7,4 +7,4 @@ returns-then-m-ne0 c = c.no_packet.ensures ∙ message_unaligned _ _ c.if-m-ne0.
 
 pub returns : goal.returns
 returns c =
-    message-told _ _ c.if-m-ne0.false _ _ c.wide.ensures.0 c.wide-2.ensures.0
+    message-told _ _ c.if-m-ne0.false _ _ c.from.ensures c.from-2.ensures

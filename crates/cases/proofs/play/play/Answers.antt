@@ -1,11 +1,11 @@
-use borrow.Author.Tests.{eq-eqb, ne_eqb}
 use Rattle.cases.specs.Steps.{step_of}
+use Rattle.cases.proofs.RunLaws.{calls-card}
 use Rattle.cases.proofs.play.play.Goals as goal
 
-pub returns-then-row-eq110 : goal.returns-then-row-eq110
+pub returns-in-New : goal.returns-in-New
 unfolding step_of
-returns-then-row-eq110 g c = rw (eq-eqb _ 110 c.if-row-eq110.true) c.lend.ensures
+returns-in-New g c = rw c.in-New.is c.lend.ensures
 
-pub returns : goal.returns
+pub returns-in_default : goal.returns-in_default
 unfolding step_of
-returns g c = rw (ne_eqb _ 110 c.if-row-eq110.false) c.play_call.ensures
+returns-in_default g c = rw (calls-card c.args.row.kind c.in_default.not-New) c.play_call.ensures

@@ -17,5 +17,5 @@ returns g c =
     (right_by (after called.result.outcome [] [] c.part-sent.result.now) _ c.part-expected.result.now c.part.result.now _ _
     c.same_answer.ensures c.is_over.ensures
     ∙ (λ i.
-    right (after called.result.outcome [] [] (c.part-sent.ensures i)) (c.answer_of-answer.ensures i) (c.part-expected.ensures i)
+    right (after called.result.outcome [] [] (c.part-sent.ensures i)) args.row.answer (c.part-expected.ensures i)
     (c.part.ensures i)))

@@ -7,7 +7,7 @@ use Rattle.config_access.proofs.config_read.config_read_core.Goals as goal
 
 pub returns-then-bad_config : goal.returns-then-bad_config
 returns-then-bad_config c =
-    core_row _ _ _ _ 3 _ (config-refused _ _ _ _ config-reads (sym c.bad_config.ensures ∙ c.if-bad_config.true)) refl c.refused.ensures
+    core_row _ _ _ _ 3 _ (config-refused _ _ _ _ config-reads (sym c.bad_config.ensures ∙ c.if-bad_config.true)) refl c.refuse.ensures
 
 pub config_value-value-requires : goal.config_value-value-requires
 config_value-value-requires c =

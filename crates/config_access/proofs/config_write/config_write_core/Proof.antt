@@ -12,7 +12,7 @@ use Rattle.config_access.proofs.config_write.config_write_core.Tie as tie
 returns : tie.Need-returns-then-bad_config
 returns c =
     core_row _ _ _ _ 3 _ (config-refused _ _ _ _ (config-writes _ _) (sym c.bad_config.ensures ∙ c.if-bad_config.true)) refl
-    c.refused.ensures
+    c.refuse.ensures
 
 -- row 3 does not apply
 module _ (c : tie.Else-bad_config) where

@@ -5,17 +5,8 @@ use Rattle.model.specs.World.{endpoint_of}
 use Rattle.endpoint.proofs.SweepFor.{msi-bytes}
 use Rattle.endpoint.proofs.sweep.msi_size.Goals as goal
 
-pub msi_owed-owed-requires : goal.msi_owed-owed-requires
-msi_owed-owed-requires c =
-    let k = c.requires.0 in
-    (k.fits, k.form, λ t. k.mode t ∙ c.requires.1)
-
-pub msi_base-base-requires : goal.msi_base-base-requires
-msi_base-base-requires c =
-    (c.requires.0.fits, c.requires.0.form)
-
 pub returns : goal.returns
 returns c =
     λ t p.
     c.msi_size.ensures _ _ _
-    ∙ sym (ap length (msi-bytes _ (endpoint_of _ t p) _ _ (c.msi_owed-owed.ensures _ _ _ _ t p) (c.msi_base-base.ensures t).0))
+    ∙ sym (ap length (msi-bytes _ (endpoint_of _ t p) _ _ (c.msi_owed-owed.ensures t p) (c.msi_base-base.ensures t).0))

@@ -4,10 +4,6 @@ use lib.ListN.{length}
 use Rattle.endpoint.proofs.SweepFor.{msix-bytes, off_bytes}
 use Rattle.endpoint.proofs.sweep.msix_size.Goals as goal
 
-pub msix_enabled-requires : goal.msix_enabled-requires
-msix_enabled-requires c =
-    (c.requires.0, c.requires.3)
-
 pub returns-then-msix_enabled : goal.returns-then-msix_enabled
 returns-then-msix_enabled c =
     c.msix_size.ensures _

@@ -6,10 +6,6 @@ use Rattle.endpoint.proofs.SweepFor.{pin-bytes, bytes-mode}
 use Rattle.endpoint.proofs.ReadyFit.{ready_lent, ready-table}
 use Rattle.endpoint.proofs.sweep.owed_size.Goals as goal
 
-pub msi_size-requires : goal.msi_size-requires
-msi_size-requires c =
-    (c.requires.1, c.in-Msi.is)
-
 pub msix_size-requires : goal.msix_size-requires
 msix_size-requires c =
     let k = c.requires.1 in

@@ -4,4 +4,4 @@ use Rattle.image.proofs.get.function_from.Goals as goal
 
 pub returns : goal.returns
 unfolding function_from
-returns c = cc
+returns g c = cc

@@ -7,7 +7,7 @@ use Rattle.interrupt.proofs.line.line_core.Goals as goal
 pub returns-then-out-owed_size : goal.returns-then-out-owed_size
 returns-then-out-owed_size c =
     line-short _ _ _ _ _ c.requires.0 _ c.requires.1 _ _ c.set_line-wired.ensures _ _ c.owed_size.ensures c.if-out-owed_size.true
-    c.refused.ensures
+    c.refuse.ensures
 
 pub put_owed-count-requires : goal.put_owed-count-requires
 put_owed-count-requires c =

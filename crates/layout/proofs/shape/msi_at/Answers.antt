@@ -3,6 +3,4 @@ use Rattle.layout.proofs.ShapeFound.{msi_read}
 use Rattle.layout.proofs.shape.msi_at.Goals as goal
 
 pub returns : goal.returns
-returns c =
-    let a = c.args in
-    msi_read a.c.now a.a c.wide-low.result c.wide-high.result c.wide-low.ensures.0 c.wide-high.ensures.0
+returns c = msi_read c.args.c.now c.args.a _ _ c.from-low.ensures c.from-high.ensures

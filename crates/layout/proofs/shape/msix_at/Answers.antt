@@ -4,7 +4,4 @@ use Rattle.layout.proofs.shape.msix_at.Goals as goal
 
 pub returns : goal.returns
 returns c =
-    let a = c.args in
-    msix_read a.c.now a.a c.wide-low.result c.wide-high.result
-    c.region_at-table.result c.region_at-pending.result
-    c.wide-low.ensures.0 c.wide-high.ensures.0 c.region_at-table.ensures c.region_at-pending.ensures
+    msix_read c.args.c.now c.args.a _ _ _ _ c.from-low.ensures c.from-high.ensures c.region_at-table.ensures c.region_at-pending.ensures

@@ -4,16 +4,15 @@ use Rattle.layout.proofs.shape.shape.Goals as goal
 
 pub msi_found-requires : goal.msi_found-requires
 msi_found-requires c =
-    (c.requires.0, (found_places c.args.c.now (λ i. (c.shared_slice_known-1.given i).fits) c.args.found c.requires.1).0)
+    (found_places c.args.c.now c.fits-c c.args.listing _ c.requires c.unwrap_or-found.ensures).0
 
 pub msix_found-requires : goal.msix_found-requires
 msix_found-requires c =
-    (c.requires.0, (found_places c.args.c.now (λ i. (c.shared_slice_known-1.given i).fits) c.args.found c.requires.1).1)
+    (found_places c.args.c.now c.fits-c c.args.listing _ c.requires c.unwrap_or-found.ensures).1
 
 pub returns : goal.returns
 returns c =
     let f = c.args.c.now in
-    let m = c.msi_found in
-    let x = c.msix_found in
-    let e = shape_read f c.args.found m.result x.result c.requires.1 m.ensures x.ensures in
-    (e, rw e (shape_bounded f (λ i. (c.shared_slice_known-1.given i).fits)))
+    let l = c.unwrap_or-found in
+    let e = shape_read f c.args.listing l.result _ _ c.requires l.ensures c.msi_found.ensures c.msix_found.ensures in
+    (e, rw e (shape_bounded f c.fits-c))

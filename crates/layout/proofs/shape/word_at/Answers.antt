@@ -7,5 +7,5 @@ use Rattle.layout.proofs.shape.word_at.Goals as goal
 pub returns-else-at-le256 : goal.returns-else-at-le256
 returns-else-at-le256 c =
     let a = c.args in
-    let n = c.requires.0 in
+    let n = c.told-c in
     sym (word_past a.c.now a.at (omega arith))

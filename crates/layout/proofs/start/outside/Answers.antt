@@ -1,12 +1,12 @@
 -- `outside` meets its contract. Assumes nothing.
-use borrow.Author.Tests.{lt-ltb, le-ltb}
+use Rattle.std.proofs.Common.{rules, tests}
 use Rattle.model.specs.Start.{outside}
 use Rattle.layout.proofs.start.outside.Goals as goal
 
-pub returns-then-bar-gt5 : goal.returns-then-bar-gt5
+pub returns-then-r-gt5 : goal.returns-then-r-gt5
 unfolding outside
-returns-then-bar-gt5 c = rw (lt-ltb _ _ c.if-bar-gt5.true)
+returns-then-r-gt5 c = search (rules, tests)
 
-pub returns : goal.returns
+pub returns-else-r-gt5 : goal.returns-else-r-gt5
 unfolding outside
-returns c = rw (le-ltb _ _ c.if-bar-gt5.false, c.wide.ensures)
+returns-else-r-gt5 c = search (rules, tests)

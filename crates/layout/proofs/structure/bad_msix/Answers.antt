@@ -1,13 +1,13 @@
 -- `bad_msix` meets its contract. Assumes nothing.
-use mathlib.Core.Path.{◌∙◌}
-use Rattle.layout.proofs.Checks.{msix_absent, msix_there}
+use Rattle.std.proofs.Common.{rules, tests}
 use Rattle.layout.specs.Checks.{bad_msix}
+use Rattle.model.specs.Shape.{msix_present}
 use Rattle.layout.proofs.structure.bad_msix.Goals as goal
 
-pub returns-then-s-eq0 : goal.returns-then-s-eq0
-unfolding bad_msix
-returns-then-s-eq0 c = rw (msix_absent c.args.s c.if-s-eq0.true)
+pub returns-then-s-ne0 : goal.returns-then-s-ne0
+unfolding bad_msix msix_present
+returns-then-s-ne0 c = search (rules, tests)
 
-pub returns : goal.returns
-unfolding bad_msix
-returns c = c.misplaced.ensures ∙ rw (msix_there c.args.s c.if-s-eq0.false)
+pub returns-else-s-ne0 : goal.returns-else-s-ne0
+unfolding bad_msix msix_present
+returns-else-s-ne0 c = search (rules, tests)

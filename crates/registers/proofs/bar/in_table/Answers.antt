@@ -10,4 +10,4 @@ pub returns : goal.returns
 unfolding in_table msix_present
 returns c =
     let a = c.args in
-    c.in_region.ensures ∙ ap (λ (n : ℕ). msix_present a.s && in_region a.s.msix.table n a.bar a.offset) c.table_bytes-n.ensures.0
+    c.in_region.ensures ∙ ap (λ (n : ℕ). msix_present a.s && in_region a.s.msix.table n a.bar a.offset) c.table_bytes.ensures.0

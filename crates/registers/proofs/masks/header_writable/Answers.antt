@@ -1,21 +1,21 @@
--- One row of the definition for each way out. Assumes nothing.
-use borrow.Author.Tests.{eq-eqb, ne_eqb}
+-- One row of the definition for each arm. Assumes nothing.
+use Rattle.std.proofs.Common.{rules, tests}
 use Rattle.words.specs.Lists.{first_of}
 use Rattle.model.specs.Registers.{header_writable}
 use Rattle.registers.proofs.masks.header_writable.Goals as goal
 
-pub returns-then-i-eq4 : goal.returns-then-i-eq4
+pub returns-in-4 : goal.returns-in-4
 unfolding header_writable first_of
-returns-then-i-eq4 c = rw (eq-eqb _ _ c.if-i-eq4.true)
+returns-in-4 c = search (rules, tests)
 
-pub returns-then-i-eq5 : goal.returns-then-i-eq5
+pub returns-in-5 : goal.returns-in-5
 unfolding header_writable first_of
-returns-then-i-eq5 c = rw (ne_eqb _ _ c.if-i-eq4.false, eq-eqb _ _ c.if-i-eq5.true)
+returns-in-5 c = search (rules, tests)
 
-pub returns-then-i-eq60 : goal.returns-then-i-eq60
+pub returns-in-60 : goal.returns-in-60
 unfolding header_writable first_of
-returns-then-i-eq60 c = rw (ne_eqb _ _ c.if-i-eq4.false, ne_eqb _ _ c.if-i-eq5.false, eq-eqb _ _ c.if-i-eq60.true)
+returns-in-60 c = search (rules, tests)
 
-pub returns-else-i-eq60 : goal.returns-else-i-eq60
+pub returns-in_default : goal.returns-in_default
 unfolding header_writable first_of
-returns-else-i-eq60 c = rw (ne_eqb _ _ c.if-i-eq4.false, ne_eqb _ _ c.if-i-eq5.false, ne_eqb _ _ c.if-i-eq60.false)
+returns-in_default c = search (rules, tests)

@@ -1,26 +1,16 @@
-use mathlib.Core.Path.{refl, ◌∙◌}
-use native.Mathlib.Omega.{arith}
-use lib.ListN.{length-set}
-use Rattle.registers.proofs.PartLaws.{part_none, part-more, part-all}
+use Rattle.std.proofs.Common.{ℕ, replicate, ap, ◌∙◌, rules, arith}
+use Rattle.std.proofs.Common.{length-take, length-drop}
+use Rattle.registers.proofs.PartLaws.{part_zeroed, part_none, part-all}
 use Rattle.registers.proofs.start.zero_part.Goals as goal
 
-pub loop-i-init : goal.loop-i-init
-loop-i-init c =
+pub returns-then-lo-hi : goal.returns-then-lo-hi
+returns-then-lo-hi c =
     let a = c.args in
-    (omega arith, omega arith, c.requires.0, part_none (λ k x. 0) a.lo a.config.now)
+    part_zeroed a.lo a.hi a.config.now _ c.if-lo-hi.true (omega (arith, c.told-config, c.requires))
+    (c.fill.ensures.after (λ y h. search rules)
+    ∙ ap (λ (n : ℕ). replicate n 0) (simp (length-take, length-drop) (omega (arith, c.told-config, c.requires))))
 
-pub loop-i-preserved : goal.loop-i-preserved
-loop-i-preserved c =
+pub returns-else-lo-hi : goal.returns-else-lo-hi
+returns-else-lo-hi c =
     let a = c.args in
-    let v = c.loop-i in (
-      omega arith,
-      omega arith,
-      simp length-set v.invariant.2,
-      part-more (λ k x. 0) a.lo a.config.now v.config v.i 0 (omega arith) (omega arith) v.invariant.3 refl,
-    )
-
-pub returns : goal.returns
-returns c =
-    let a = c.args in
-    let v = c.loop-i in
-    λ k. v.invariant.3 k ∙ part-all (λ k x. 0) a.lo a.config.now a.hi v.i (omega arith) (omega arith) k
+    λ k. part_none (λ k x. 0) a.lo a.config.now k ∙ part-all (λ k x. 0) a.lo a.config.now a.hi a.lo c.if-lo-hi.false (omega arith) k

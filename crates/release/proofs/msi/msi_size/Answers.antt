@@ -12,9 +12,6 @@ use Rattle.words.proofs.ListLaws.{join_each}
 use borrow.Author.Rules.{rules}
 use Rattle.release.proofs.msi.msi_size.Goals as goal
 
-pub overflow_cast-result : goal.overflow_cast-result
-overflow_cast-result c = let h : c.args.owed < 2 ^ 32 = search rules in omega (arith, ones-le 32 c.args.owed h)
-
 pub overflow_mul-result : goal.overflow_mul-result
 overflow_mul-result c =
     let a = c.args in

@@ -1,10 +1,8 @@
 -- The word at a byte of the pending array. Assumes nothing.
 use mathlib.Core.Path.{sym, ap, ◌∙◌}
-use mathlib.Core.Bool.{not, ◌&&◌}
-use Prim.Native.Nat.{ℕ, ◌+◌, ◌*◌}
+use Prim.Native.Nat.{ℕ}
 use Rattle.words.specs.Bits.{bit}
 use Rattle.release.proofs.PendingWords.{word_backed}
-use Rattle.model.specs.Vectors.{entry_masked}
 use Rattle.release.proofs.msix.open_word.Goals as goal
 
 pub unmasked-requires : goal.unmasked-requires
@@ -13,9 +11,3 @@ unmasked-requires c =
     let a = c.args in
     word_backed a.table.now a.pending.now a.at (λ i. (c.shared_slice_known-2-1.given i).fits) c.requires.0 j
     (sym (ap (λ (x : ℕ). bit x j) c.word64.ensures) ∙ e)
-
-pub returns : goal.returns
-returns c =
-    λ j.
-    let a = c.args in
-    c.unmasked.ensures j ∙ ap (λ (x : ℕ). bit x j && not (entry_masked a.table.now (8 * a.at + j))) c.word64.ensures

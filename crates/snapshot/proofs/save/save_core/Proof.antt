@@ -28,7 +28,7 @@ len-requires c κs =
 returns : tie.Need-returns-then-out-size
 returns c =
     save-short _ _ _ _ c.new.ensures _ c.len-size.ensures _ (sizes (start c.before.before)) (bytes (start c.before.before)) _ c.if-out-size.true
-    c.refused.ensures
+    c.refuse.ensures
 
 put-image-requires : tie.Need-put_image-n-requires
 put-image-requires c κs =

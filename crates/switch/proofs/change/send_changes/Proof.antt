@@ -30,7 +30,7 @@ module _ (c : tie.After-changes_size) where
 
 returns : tie.Need-returns-then-out-changes_size
 returns c =
-    room-short _ c.args.next (owed c.before.before) _ _ (omega (arith, c.if-out-changes_size.true, size c.before.before)) c.refused.ensures
+    room-short _ c.args.next (owed c.before.before) _ _ (omega (arith, c.if-out-changes_size.true, size c.before.before)) c.refuse.ensures
 
 put-changes-requires : tie.Need-put_changes-count-requires
 put-changes-requires c κs =

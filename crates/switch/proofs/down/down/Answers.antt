@@ -3,7 +3,7 @@ use Rattle.switch.proofs.CallFor.{down-high, down-port}
 use Rattle.switch.proofs.down.down.Goals as goal
 
 pub returns-then-port-gt7 : goal.returns-then-port-gt7
-returns-then-port-gt7 c = down-high _ _ _ _ c.if-port-gt7.true c.refused.ensures
+returns-then-port-gt7 c = down-high _ _ _ _ c.if-port-gt7.true c.refuse.ensures
 
 pub returns : goal.returns
 returns c =

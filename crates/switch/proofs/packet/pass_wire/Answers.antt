@@ -5,7 +5,7 @@ use Rattle.switch.proofs.packet.pass_wire.Goals as goal
 
 pub returns-then-w-ne0 : goal.returns-then-w-ne0
 unfolding device_of
-returns-then-w-ne0 c = wire_device _ _ _ _ _ c.if-w-ne0.true c.refused.ensures
+returns-then-w-ne0 c = wire_device _ _ _ _ _ c.if-w-ne0.true c.refuse.ensures
 
 pub returns : goal.returns
 unfolding device_of

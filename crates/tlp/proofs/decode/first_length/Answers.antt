@@ -1,14 +1,15 @@
-use mathlib.Core.Path.{sym, ◌∙◌}
+use Rattle.std.proofs.Common.{sym}
 use borrow.Author.Tests.{eq-eqb, ne_eqb}
 use Rattle.tlp.specs.Decoded.{first_length}
 use Rattle.tlp.proofs.decode.first_length.Goals as goal
-
-pub returns-then-byte_at-eq96 : goal.returns-then-byte_at-eq96
-unfolding first_length
-returns-then-byte_at-eq96 c =
-    rw (eq-eqb _ 0x60 (sym c.byte_at.ensures ∙ c.if-byte_at-eq96.true)) c.clipped.ensures.0
+use Rattle.tlp.proofs.decode.first_length.Goals.{then-four_words, else-four_words}
 
 pub returns : goal.returns
 unfolding first_length
 returns c =
-    rw (ne_eqb _ 0x60 (λ q. c.if-byte_at-eq96.false (c.byte_at.ensures ∙ q))) c.clipped-2.ensures.0
+    elim c.if-four_words.branch [
+      | then-four_words w ↦
+          rw (sym c.byte_at-four_words.ensures, eq-eqb _ 0x60 w.if-four_words.true, sym w.clipped-is) c.clipped.ensures.0
+      | else-four_words w ↦
+          rw (sym c.byte_at-four_words.ensures, ne_eqb _ 0x60 w.if-four_words.false, sym w.clipped-is) c.clipped.ensures.0
+    ]

@@ -5,4 +5,5 @@ use Rattle.tlp.proofs.write32.bytes.Goals as goal
 
 pub returns : goal.returns
 unfolding message
-returns c = rw (bytes_high-two, bytes_high-four, bytes_of-four)
+returns c =
+    rw (c.to_be_bytes.ensures, c.to_be_bytes-2.ensures, c.to_le_bytes.ensures, bytes_high-two, bytes_high-four, bytes_of-four)

@@ -8,5 +8,6 @@ use Rattle.tlp.proofs.write64.bytes.Goals as goal
 pub returns : goal.returns
 unfolding message
 returns c =
-    let a = c.args in
-    rw (ne_eqb a.upper 0 (omega arith), bytes_high-two, bytes_high-four a.upper, bytes_high-four a.address, bytes_of-four)
+    let m = c.args.m in
+    rw (c.to_be_bytes.ensures, c.to_be_bytes-2.ensures, c.to_be_bytes-3.ensures, c.to_le_bytes.ensures)
+    (rw (ne_eqb m.upper 0 (omega arith), bytes_high-two, bytes_high-four m.upper, bytes_high-four m.address, bytes_of-four))

@@ -2,16 +2,9 @@
 use mathlib.Core.Path.{ap}
 use mathlib.Core.Option.{some}
 use Prim.Native.Nat.{ℕ, ◌%◌}
-use native.Mathlib.Nat.{mod-le}
-use native.Mathlib.Omega.{arith}
 use Rattle.model.specs.Vectors.{vector_of}
 use Rattle.vectors.specs.Mapping.{vector_in}
 use Rattle.vectors.proofs.event.event_vector.Goals as goal
-
-pub overflow_cast-v-in-Msi : goal.overflow_cast-v-in-Msi
-overflow_cast-v-in-Msi c =
-    let a = c.args in
-    omega (arith, mod-le a.e.0 c.granted.result)
 
 pub returns-in-Pin : goal.returns-in-Pin
 unfolding vector_in vector_of

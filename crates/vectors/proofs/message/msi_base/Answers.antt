@@ -2,7 +2,7 @@
 use mathlib.Core.Path.{◌≡◌}
 use Prim.Native.Nat.{ℕ, ◌-◌, ◌+◌, ◌*◌, ◌/◌, ◌%◌, ◌^◌, ◌≤◌, ◌<◌}
 use native.Mathlib.Omega.{arith}
-use native.Mathlib.Nat.{div-add-mod', mod-le}
+use native.Mathlib.Nat.{div-add-mod'}
 use lib.ListN.{length}
 use borrow.Author.Rules.{rules}
 use Rattle.model.proofs.Shapes.PlaceLaws.{size_large}
@@ -27,10 +27,6 @@ pub word32-requires : goal.word32-requires
 word32-requires c =
     let n : length c.args.c.now ≡ 256 = search rules in
     omega (arith, n, c.requires.0, size_large c.args.s)
-
-pub overflow_sub-result : goal.overflow_sub-result
-overflow_sub-result c =
-    omega (arith, mod-le c.msi_data-data.result c.granted-g.result)
 
 pub returns : goal.returns
 unfolding msi_base msi_address

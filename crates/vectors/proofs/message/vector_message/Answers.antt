@@ -21,12 +21,3 @@ pub returns-in-Pin : goal.returns-in-Pin
 returns-in-Pin c =
     let a = c.args in
     absurd (pin-not-enabled a.k.shape (regs a.c.now a.table.now) a.v.0 (rw c.in-Pin.is at c.requires.2))
-
-pub returns-in-Msi : goal.returns-in-Msi
-returns-in-Msi c =
-    λ requester. rw c.in-Msi.is (c.msi_message.ensures requester c.args.table.now)
-
-pub returns-in-Msix : goal.returns-in-Msix
-returns-in-Msix c =
-    let a = c.args in
-    λ requester. rw c.in-Msix.is (c.msix_message.ensures a.k.shape requester a.c.now)

@@ -1,0 +1,29 @@
+-- The checks in their order, one law for each refusal. Assumes nothing.
+use Rattle.std.proofs.lemmas.Bool.{not_from_false, not_from_true}
+use Rattle.snapshot.proofs.RestoreFor.{no_image, no_mark, other_version, is-image, not_saved, passed}
+use Rattle.snapshot.proofs.held.read.Goals as goal
+
+pub returns-then-image-lt-TABLE : goal.returns-then-image-lt-TABLE
+returns-then-image-lt-TABLE c = no_image _ c.if-image-lt-TABLE.true
+
+pub returns-then-not-is_marked : goal.returns-then-not-is_marked
+returns-then-not-is_marked c = no_mark _ c.if-image-lt-TABLE.false _ c.is_marked.ensures (not_from_false _ c.if-not-is_marked.true)
+
+pub returns-then-version-ne-VERSION : goal.returns-then-version-ne-VERSION
+returns-then-version-ne-VERSION c =
+    other_version _ c.if-image-lt-TABLE.false _ c.is_marked.ensures (not_from_true _ c.if-not-is_marked.false) _ c.version.ensures c.if-version-ne-VERSION.true
+
+pub is_saved-requires : goal.is_saved-requires
+is_saved-requires c =
+    let e = is-image _ c.if-image-lt-TABLE.false _ c.is_marked.ensures (not_from_true _ c.if-not-is_marked.false) _ c.version.ensures c.if-version-ne-VERSION.false in
+    (c.if-image-lt-TABLE.false, e.0, e.1, c.held_card-card.ensures, c.table_length-table.ensures.0, c.table_length-table.ensures.1)
+
+pub returns-then-not-is_saved : goal.returns-then-not-is_saved
+returns-then-not-is_saved c =
+    let e = is-image _ c.if-image-lt-TABLE.false _ c.is_marked.ensures (not_from_true _ c.if-not-is_marked.false) _ c.version.ensures c.if-version-ne-VERSION.false in
+    not_saved _ c.if-image-lt-TABLE.false e _ c.is_saved.ensures (not_from_false _ c.if-not-is_saved.true)
+
+pub returns : goal.returns
+returns c =
+    let e = is-image _ c.if-image-lt-TABLE.false _ c.is_marked.ensures (not_from_true _ c.if-not-is_marked.false) _ c.version.ensures c.if-version-ne-VERSION.false in
+    passed _ c.if-image-lt-TABLE.false e _ c.is_saved.ensures (not_from_true _ c.if-not-is_saved.false) _ _ c.held_card-card.ensures c.table_length-table.ensures.0

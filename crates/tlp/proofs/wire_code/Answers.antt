@@ -1,8 +1,0 @@
--- The two cases of the test. Assumes nothing.
-use Rattle.tlp.proofs.wire_code.Goals as goal
-
-pub returns-then-active : goal.returns-then-active
-returns-then-active c = rw c.if-active.true
-
-pub returns-else-active : goal.returns-else-active
-returns-else-active c = rw c.if-active.false
