@@ -14,6 +14,7 @@ use Rattle.model.specs.declared.Answer.{Answer}
 use Rattle.call_log.specs.declared.Player.{Player}
 use Rattle.call_log.specs.declared.Stage.{Stage}
 use Rattle.call_log.specs.declared.Stage.TheVariants.{Header, Records, Again, Broken}
+use Rattle.call_log.specs.declared.End.{End}
 use Rattle.call_log.specs.declared.End.TheVariants.{More, Whole, Wrong}
 use Rattle.call_log.specs.declared.Scanned.{Scanned}
 use Rattle.call_log.specs.Players.{player_of, no_part, between, counted, scanned_of, stopped, scan, scanned, resumed, advanced, is_playing}
@@ -45,9 +46,9 @@ pub scanned_more : (s : Scanned) → s.end ≡ More → s ≡ scanned s s.end
 unfolding scanned
 scanned_more s e = ap (scanned_of s.player s.taken) e ∙ ap (scanned s) (sym e)
 
-pub scanned_wrong : (s : Scanned) → s.end ≡ Wrong → s ≡ scanned s s.end
+pub scanned_wrong : (s : Scanned) (end : End) → s.end ≡ Wrong → end ≡ Wrong → scanned_of s.player s.taken end ≡ scanned s s.end
 unfolding scanned
-scanned_wrong s e = ap (scanned_of s.player s.taken) e ∙ ap (scanned s) (sym e)
+scanned_wrong s end e w = ap (scanned_of s.player s.taken) w ∙ ap (scanned s) (sym e)
 
 pub scanned_whole : (s : Scanned) (n : ℕ) → s.end ≡ Whole → n ≡ counted s.player.number
     → scanned_of (player_of Records s.player.taken s.player.part n) s.taken s.end ≡ scanned s s.end

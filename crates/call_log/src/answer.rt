@@ -3,6 +3,7 @@ ghost use Rattle.std.specs.Prelude.{◌≡◌};
 ghost use Rattle.call_log.specs.Plays.{lacks_room};
 
 use model::Answer;
+use model::refusal::Refusal;
 
 // Whether it is 6: the output had too little room, and nothing was done.
 // Kept as `let .. else`: docs/DECISIONS.md has it among the forms that document 01 names.
@@ -12,5 +13,5 @@ pub fn lacks_room(answer: Answer) -> bool
     let Answer::Refused(number) = answer else {
         return false;
     };
-    number == 6
+    number == Refusal::Room as u8
 }

@@ -86,7 +86,7 @@ module _ (card t q player log out : List ℕ) (p : Player) (is : p ≡ player_in
   took = e ∙ ap (λ (x : Player). advanced x log) is
 
   -- no record is due
-  turned-idle : due_at a.end ≡ false → (player' : List ℕ) → player' ≡ player_bytes a.player
+  pub turned-idle : due_at a.end ≡ false → (player' : List ℕ) → player' ≡ player_bytes a.player
       → handed (refusal_at a.end) card t q player' out a.taken 0 0 0 0 ≡ called_on card t q player log out
   turned-idle d player' f =
       ap (λ (l : List ℕ). handed (refusal_at a.end) card t q l out a.taken 0 0 0 0) f ∙ ap (back card) (play-idle (player_in player) w log out a took d)

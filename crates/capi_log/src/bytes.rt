@@ -13,10 +13,13 @@ pub fn is_card(bytes: &[u8]) -> bool
     capi::bytes::unread(bytes) == 0
 }
 
-// Whether these are the bytes of a player: the first one is a stage.
-pub fn is_player(bytes: &[u8; 25]) -> bool
+// Whether these are the bytes of a player: 25, of which the first one is a stage. It is asked of any bytes, as its definition is.
+pub fn is_player(bytes: &[u8]) -> bool
     ensures { result ≡ is_player bytes.now }
 {
+    if bytes.len() != 25 {
+        return false;
+    }
     bytes[0] < 4
 }
 

@@ -79,24 +79,25 @@ pub fn take_turn(
     }
     let next = advance(player_of(player), log);
     let held = next.player;
-    let taken = next.taken;
     match next.end {
         End::More => {
+            let all = next.taken;
             put_player(player, held);
             Turn {
-                taken,
+                taken: all,
                 ended: Ok(None),
             }
         }
         End::Whole => {
             let answer = perform(card, table, pending, held_record(held), out, count);
             put_player(player, onward(held, answer));
-            done(taken, answer)
+            done(next.taken, answer)
         }
         End::Wrong => {
+            let before = next.taken;
             put_player(player, held);
             Turn {
-                taken,
+                taken: before,
                 ended: Err(Stopped),
             }
         }

@@ -3,7 +3,9 @@ ghost use Rattle.std.specs.Prelude.{◌≡◌};
 ghost use Rattle.model.specs.Shape.{shape_of};
 ghost use Rattle.capi_query.specs.Lengths.{lengths, told, told_of, config_lengths, image_lengths};
 
+use image::format::Image;
 use model::refusal::Refusal;
+use snapshot::held::{held_card, is_saved, table_length};
 
 // What is told.
 #[derive(Clone, Copy, Debug, PartialEq, Eq)]
@@ -32,12 +34,26 @@ fn config_lengths(config: &[u8]) -> Result<Lengths, Refusal>
     Ok(lengths_of(config))
 }
 
-// The checks of a restore, but for that of the lent buffers.
+// The checks of a restore, but for that of the lent buffers. Not by `snapshot::held::read`: a card within a `Result` is zeroed first, for which
+// this archive would need `memset` from outside.
 fn image_lengths(image: &[u8]) -> Result<Lengths, Refusal>
     ensures { told result ≡ image_lengths image.now }
 {
-    let held = snapshot::held::read(image)?;
-    Ok(lengths_of(&held.card.function.config))
+    if image.len() < Image::TABLE {
+        return Err(Refusal::Mark);
+    }
+    if !image::get::is_marked(image) {
+        return Err(Refusal::Mark);
+    }
+    if image::get::version(image) != Image::VERSION {
+        return Err(Refusal::Version);
+    }
+    let held = held_card(image);
+    let n = table_length(held);
+    if !is_saved(image, held, n) {
+        return Err(Refusal::Image);
+    }
+    Ok(lengths_of(&held.function.config))
 }
 
 // Writes what is told, zeros beside a refusal.

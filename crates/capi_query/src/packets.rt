@@ -2,6 +2,7 @@
 ghost use Rattle.std.specs.Prelude.{◌≡◌};
 ghost use Rattle.capi_query.specs.Fields.{fields, no_packet, message_fields, wire_fields, fields_of, first_fields};
 
+use model::refusal::Refusal;
 use tlp::decode::{Level, Message, Packet};
 
 // What is told of a packet: 60 and zeros where there is none. Kind 1 is a message, kind 2 a wire packet; what a kind has no use for is 0.
@@ -22,7 +23,7 @@ fn no_packet() -> Fields
     ensures { result ≡ no_packet }
 {
     Fields {
-        refusal: 60,
+        refusal: Refusal::Lengths as u8,
         count: 0,
         kind: 0,
         requester: 0,

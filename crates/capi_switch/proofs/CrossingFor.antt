@@ -1,19 +1,16 @@
 -- From the code's parts to what crosses, one law for each way out. Assumes nothing.
 use mathlib.Core.Path.{◌≡◌, refl, sym, ap, ◌∙◌}
-use mathlib.Core.Bool.{Bool, true, false, not, true≢false, false≢true}
-use mathlib.Core.List.{List, [], ◌∷◌, ◌++◌, append-nil}
-use Prim.Native.Nat.{ℕ, suc, ◌+◌, ◌≤◌, ◌<◌}
-use native.Mathlib.Nat.{zero-add}
+use mathlib.Core.Bool.{Bool, true, false, not, ◌&&◌, and_assoc, and-true, true≢false, false≢true}
+use mathlib.Core.List.{List, [], ◌++◌, append-nil}
+use Prim.Native.Nat.{ℕ, ◌≤◌, ◌<◌}
 use native.Mathlib.Omega.{arith}
 use lib.Dec.{ltb, eqb}
-use lib.ListN.{length, drop, length-drop, drop_of_length-le}
-use lib.Seq.{get_or-drop}
-use Rattle.std.specs.List.{list_all}
+use lib.ListN.{length, drop_of_length-le}
 use borrow.Author.Tests.{eq-eqb, ne_eqb, eqb-true, lt-ltb, le-ltb}
 use Rattle.words.specs.Lists.{count, all}
 use Rattle.words.specs.Bytes.{byte, bytes_of}
 use Rattle.words.specs.Writers.{Wrote}
-use Rattle.words.proofs.BoolLaws.{both}
+use Rattle.words.proofs.BoolLaws.{both, eight_joined}
 use Rattle.model.specs.declared.Answer.{Answer}
 use Rattle.model.specs.declared.Answer.TheVariants.{Refused, Done, Value, Sent, Held, Merged, Lost}
 use Rattle.model.specs.Answers.{refusal_of}
@@ -27,20 +24,13 @@ use Rattle.capi_switch.specs.Crossing.{switch_bytes, switch_in, ports_clean, is_
 
 -- ---- bytes that a switch has
 
--- each of the elements passes a test: counted by their places, from i on
-all_row : (p f : ℕ → Bool) (i : ℕ) (m : List ℕ) → ((k : ℕ) → k < length m → f (i + k) ≡ p (byte m k)) → list_all p m ≡ all f (count i (length m))
-unfolding all count
-all_row p f i [] h = refl
-all_row p f i (x ∷ m) h =
-    let first : p x ≡ f i = sym (h 0 (omega arith)) ∙ ap f (omega arith) in
-    let rest : list_all p m ≡ all f (count (suc i) (length m)) = all_row p f (suc i) m (λ k j. ap f (omega arith) ∙ h (suc k) (omega arith)) in
-    rw (first, rest)
-
-pub rest-clean : (l : List ℕ) → length l ≡ 10 → list_all (λ w. ltb w 16) (drop 2 l) ≡ ports_clean l
-unfolding ports_clean
-rest-clean l e =
-    let n : length (drop 2 l) ≡ 8 = length-drop 2 l ∙ omega arith in
-    all_row (λ w. ltb w 16) (λ k. ltb (byte l (2 + k)) 16) 0 (drop 2 l) (λ k h. rw (zero-add k, get_or-drop 2 l k 0)) ∙ rw n
+pub eight-clean : (l : List ℕ)
+    → let low : ℕ → Bool = λ k. ltb (byte l k) 16 in
+    (((((((low 2 && low 3) && low 4) && low 5) && low 6) && low 7) && low 8) && low 9) ≡ ports_clean l
+unfolding ports_clean all count
+eight-clean l =
+    let low : ℕ → Bool = λ k. ltb (byte l k) 16 in
+    eight_joined ◌&&◌ true and_assoc and-true (low 2) (low 3) (low 4) (low 5) (low 6) (low 7) (low 8) (low 9)
 
 -- the number of an answer that is no refusal
 pub unrefused : (a : Answer) → ((n : ℕ) → a ≡ Refused n → ⊥) → 0 ≡ refusal_of a

@@ -36,7 +36,9 @@ fn wiring(card: &Card, mode: Mode) -> Wiring
 pub fn check(card: &Card, table: &[u8], pending: &[u8]) -> Option<Found>
     ensures { Checks card.now table.now pending.now result }
 {
-    let profile = endpoint::sound::check(&card.function, table, pending)?;
+    let Ok(profile) = endpoint::sound::check(&card.function, table, pending) else {
+        return None;
+    };
     let wiring = wiring(card, profile.mode);
     if card.wire == wiring.due() {
         return Some(Found { profile, wiring });

@@ -9,7 +9,7 @@ ghost use Rattle.model.specs.Sound.{given_of, waits_below, is_empty, sound_endpo
 ghost use Rattle.registers.specs.Bounds.{MsiBounds};
 ghost use Rattle.vectors.specs.Given.{Profiled};
 ghost use Rattle.release.specs.Owed.{Lent};
-ghost use Rattle.endpoint.specs.Parts.{Checked};
+ghost use Rattle.endpoint.specs.Parts.{each_of, Checked};
 
 use model::{Function, Mode, Profile, Shape};
 
@@ -27,7 +27,7 @@ fn msi_below(waiting: u32, s: Shape) -> bool
 
 fn waits_below(f: &Function, s: Shape, pending: &[u8]) -> bool
     requires { (s.msi.capable ≤ 5) × (length pending.now ≡ pending_bytes s) }
-    ensures { (t : List ℕ) → result ≡ waits_below s (endpoint_of f.now t pending.now) }
+    ensures { (c t : List ℕ) → each_of c f.now.waiting (λ g. result ≡ waits_below s (endpoint_of g t pending.now)) }
 {
     if !msi_below(f.waiting, s) {
         return false;
@@ -38,7 +38,7 @@ fn waits_below(f: &Function, s: Shape, pending: &[u8]) -> bool
 // No open vector waits.
 fn nothing_owed(f: &Function, k: Profile, table: &[u8], pending: &[u8]) -> bool
     requires { Profiled f.now.config k × Lent table.now pending.now × (length table.now ≡ table_bytes k.shape) }
-    ensures { result ≡ is_empty (owed_now k.shape (endpoint_of f.now table.now pending.now)) }
+    ensures { each_of f.now.config f.now.waiting (λ g. result ≡ is_empty (owed_now k.shape (endpoint_of g table.now pending.now))) }
 {
     match k.mode {
         Mode::Pin => true,
@@ -55,8 +55,9 @@ fn nothing_owed(f: &Function, k: Profile, table: &[u8], pending: &[u8]) -> bool
 // What is left to check of a function that a start accepts.
 fn is_clean(f: &Function, k: Profile, table: &[u8], pending: &[u8]) -> bool
     requires { MsiBounds k.shape × Fit k.shape (length table.now) (length pending.now) × Profiled f.now.config k }
-    ensures { start_refusal (given_of (endpoint_of f.now table.now pending.now)) ≡ 0
-        → result ≡ sound_endpoint k.shape (endpoint_of f.now table.now pending.now) }
+    ensures { each_of f.now.config f.now.waiting
+        (λ g. start_refusal (given_of (endpoint_of g table.now pending.now)) ≡ 0
+        → result ≡ sound_endpoint k.shape (endpoint_of g table.now pending.now)) }
 {
     let s = k.shape;
     if !registers::clean::config_clean(&f.config, s, k.form) {
@@ -71,28 +72,31 @@ fn is_clean(f: &Function, k: Profile, table: &[u8], pending: &[u8]) -> bool
     nothing_owed(f, k, table, pending)
 }
 
-// What the configuration of a sound function with these lent buffers says, the wire aside; none if it is not sound.
-pub fn check(f: &Function, table: &[u8], pending: &[u8]) -> Option<Profile>
-    ensures { Checked f.now table.now pending.now result }
+// What the configuration of a sound function with these lent buffers says, whatever its line is and the wire aside; of one that is not sound the shape.
+pub fn check(f: &Function, table: &[u8], pending: &[u8]) -> Result<Profile, Shape>
+    ensures { (line : Bool)
+        → Checked (function_of f.now.config f.now.sizes f.now.events f.now.requester line f.now.waiting) table.now pending.now result }
 {
-    let Ok(started) = layout::start::check_start(
+    let told = layout::start::check_start(
         &f.config,
         &f.sizes,
         f.events,
         f.requester,
         table.len(),
         pending.len(),
-    ) else {
-        return None;
+    );
+    let shape = told.shape;
+    let Ok(()) = told.verdict else {
+        return Err(shape);
     };
-    let mode = vectors::mode::mode(&f.config, started.shape);
+    let mode = vectors::mode::mode(&f.config, shape);
     let profile = Profile {
-        shape: started.shape,
-        form: started.form,
+        shape,
+        form: told.form,
         mode,
     };
     if is_clean(f, profile, table, pending) {
-        return Some(profile);
+        return Ok(profile);
     }
-    None
+    Err(shape)
 }

@@ -8,6 +8,7 @@ ghost use Rattle.model.specs.Release.{sweep_bytes, swept, bytes_for, swept_for};
 ghost use Rattle.model.specs.Ready.{Ready};
 ghost use Rattle.vectors.specs.Given.{InForce, Profiled};
 ghost use Rattle.release.specs.Owed.{set_bits, Lent};
+ghost use Rattle.endpoint.specs.Parts.{each_of};
 ghost use Rattle.endpoint.specs.Sweeps.{Swept};
 
 use model::{Form, Function, Mode, Profile, Shape};
@@ -22,7 +23,7 @@ pub struct Sent {
 // MSI is in force. Its open waiting vectors, a bit for each.
 pub fn msi_owed(f: &Function, s: Shape, form: Form) -> u32
     requires { FitShape s × (form ≡ form_of s) × InForce Mode.Msi s f.now.config }
-    ensures { (t p : List ℕ) → owed Mode.Msi s (endpoint_of f.now t p) ≡ set_bits 32 result }
+    ensures { each_of f.now.config f.now.waiting (λ g. (t p : List ℕ) → owed Mode.Msi s (endpoint_of g t p) ≡ set_bits 32 result) }
 {
     vectors::msi::msi_open(&f.config, s, form) & f.waiting
 }

@@ -79,7 +79,7 @@ pub broken-listed : (c : List ℕ) (o : Option Listing) → o ≡ listing_of c �
 unfolding listing_of
 broken-listed c o e = ap lost e ∙ lost_in c (capabilities c)
 
-twice-listed : (c : List ℕ) (o : Option Listing) → o ≡ listing_of c → twofold o ≡ twice c (listed (capabilities c))
+pub twice-listed : (c : List ℕ) (o : Option Listing) → o ≡ listing_of c → twofold o ≡ twice c (listed (capabilities c))
 unfolding listing_of
 twice-listed c o e = ap twofold e ∙ twofold_in c (capabilities c)
 

@@ -7,6 +7,7 @@ use mathlib.Core.Option.{Option, none, some}
 use Prim.Native.Nat.{ℕ, zero, suc, ◌+◌, ◌≤◌, ◌<◌}
 use native.Mathlib.Omega.{arith}
 use lib.Dec.{eqb, ltb}
+use lib.ListN.{length}
 use borrow.Author.Tests.{eq-eqb, ne_eqb, lt-ltb, le-ltb, eqb-true, eqb-false}
 use Rattle.words.specs.Lists.{keep, all}
 use Rattle.words.proofs.BoolLaws.{by_test}
@@ -16,10 +17,20 @@ use Rattle.model.specs.Capabilities.{pointer, walk_step, walk, capabilities, bro
 use Rattle.std.specs.Prelude as std
 use Rattle.std.specs.Prelude.{Some, None}
 use Rattle.std.specs.Bool.{then_some}
-use Rattle.layout.specs.Places.{found_of, one_more, first_pointer, listing, listing_in, listing_of}
+use Rattle.layout.specs.Places.{found_of, times, one_more, first_pointer, listing, listing_in, listing_of}
 use Rattle.layout.specs.declared.capability.Found.{Found}
-use Rattle.layout.specs.declared.capability.Found.TheVariants.{Nowhere, Again}
+use Rattle.layout.specs.declared.capability.Found.TheVariants.{Nowhere, Once, Again}
 use Rattle.layout.specs.declared.capability.Listing.{Listing}
+
+-- one more place at most
+one-counted : (f : Found) (hit : Bool) (a : ℕ) → times (cond hit (one_more f a) f) ≤ times f + 1
+one-counted Nowhere true a = omega arith
+one-counted (Once b) true a = omega arith
+one-counted (Again b n) true a = omega arith
+one-counted f false a = omega arith
+
+pub counted : (f g : Found) (hit : Bool) (a : ℕ) → g ≡ cond hit (one_more f a) f → times g ≤ times f + 1
+counted f g hit a e = rw e (one-counted f hit a)
 
 pointer-zero : pointer 0 ≡ 0
 unfolding pointer
@@ -99,16 +110,16 @@ module _ (c : List ℕ) where
   onward-more m x a none = refl
   onward-more m x a (some l) = ap₂ (λ (m x : Found). Some (listing m x)) (onward_id m a l 0x05) (onward_id x a l 0x11)
 
-  after_again : (a : ℕ) (l : List ℕ) → onward_of (Again a) l ≡ Again a
+  after_again : (a n : ℕ) (l : List ℕ) → onward_of (Again a n) l ≡ Again a (n + length l)
   unfolding onward_of
-  after_again a [] = refl
-  after_again a (b ∷ l) = after_again a l
+  after_again a n [] = ap (Again a) (let e : n ≡ n + 0 = omega arith in e)
+  after_again a n (b ∷ l) = after_again a (n + 1) l ∙ ap (Again a) (let e : n + 1 + length l ≡ n + suc (length l) = omega arith in e)
 
   onward-all : (l : List ℕ) → onward_of Nowhere l ≡ found_of l
   unfolding onward_of found_of
   onward-all [] = refl
   onward-all (a ∷ []) = refl
-  onward-all (a ∷ b ∷ l) = after_again a l
+  onward-all (a ∷ b ∷ l) = after_again a 2 l ∙ ap (Again a) (let e : 2 + length l ≡ suc (suc (length l)) = omega arith in e)
 
   -- the whole walk, from nothing found
   onward-first : (w : Option (List ℕ)) → onward Nowhere Nowhere w ≡ listing_in c w
@@ -123,7 +134,7 @@ module _ (c : List ℕ) where
 -- ---- the ways of a turn with room for k places, the pointer p and what was found so far
 
 module _ (c : List ℕ) (m x : Found) (k p at : ℕ) (l : std.Option Listing) (e : at ≡ pointer p) (to-do : onward c m x (walk c k p) ≡ l) where
-  turn_ends : at ≡ 0 → Some (listing m x) ≡ l
+  pub turn_ends : at ≡ 0 → Some (listing m x) ≡ l
   turn_ends z = sym (onward_end c m x) ∙ ap (onward c m x) (sym (ended c k p (sym e ∙ z))) ∙ to-do
 
   turn_none : walk c k p ≡ none → None ≡ l

@@ -26,7 +26,7 @@ bad_pair s n = msi_present s && msix_present s && overlap s.msi.at n s.msix.at 1
 abbrev pub again : Found → Bool
 again Nowhere = false
 again (Once a) = false
-again (Again a) = true
+again (Again a n) = true
 
 -- check 12 of what the walk found
 abbrev pub listed_twice : Listing → Bool

@@ -11,12 +11,12 @@ use Rattle.layout.specs.declared.capability.Found.TheVariants.{Nowhere, Once, Ag
 abbrev pub msi_found : List ℕ → Found → MsiShape
 msi_found c Nowhere = no_msi
 msi_found c (Once a) = msi_at c a
-msi_found c (Again a) = msi_at c a
+msi_found c (Again a n) = msi_at c a
 
 abbrev pub msix_found : List ℕ → Found → MsixShape
 msix_found c Nowhere = no_msix
 msix_found c (Once a) = msix_at c a
-msix_found c (Again a) = msix_at c a
+msix_found c (Again a n) = msix_at c a
 
 -- where a capability can stand: two bytes and two more fit behind it
 pub record Place (a : ℕ) : Type 0 where
@@ -26,7 +26,7 @@ pub record Place (a : ℕ) : Type 0 where
 abbrev pub Placed : Found → Type 0
 Placed Nowhere = Unit {0}
 Placed (Once a) = Place a
-Placed (Again a) = Place a
+Placed (Again a n) = Place a
 
 -- how large the numbers of a shape are
 pub record Bounded (s : Shape) : Type 0 where

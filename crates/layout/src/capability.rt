@@ -2,14 +2,14 @@
 ghost use Rattle.std.specs.Prelude.{◌≡◌, cond, ◌<◌};
 ghost use Rattle.model.specs.Capabilities.{pointer};
 ghost use Rattle.layout.specs.Walk.{BeginsAt};
-ghost use Rattle.layout.specs.Places.{one_more, first_pointer, listing_of};
+ghost use Rattle.layout.specs.Places.{times, one_more, first_pointer, listing_of};
 
-// Where the capabilities with one ID are: nowhere, at one place, or at more, of which the first counts.
+// Where the capabilities with one ID are: nowhere, at one place, or at more, of which the first counts; and how many there are.
 #[derive(Clone, Copy)]
 pub enum Found {
     Nowhere,
     Once(usize),
-    Again(usize),
+    Again(usize, usize),
 }
 
 // What a list that is not broken says of MSI (ID 05h) and of MSI-X (ID 11h).
@@ -22,6 +22,7 @@ pub struct Listing {
 impl Found {
     // With a capability at a place, if its ID is the one looked for.
     fn with(self, hit: bool, at: usize) -> Found
+        requires { times self < 48 }
         ensures { result ≡ cond hit (one_more self at) self }
     {
         if !hit {
@@ -29,7 +30,8 @@ impl Found {
         }
         match self {
             Found::Nowhere => Found::Once(at),
-            Found::Once(first) | Found::Again(first) => Found::Again(first),
+            Found::Once(first) => Found::Again(first, 2),
+            Found::Again(first, times) => Found::Again(first, times + 1),
         }
     }
 }

@@ -68,7 +68,7 @@ fn msi_found(c: &[u8; 256], f: Found) -> MsiShape
     ensures { result ≡ msi_found c.now f }
 {
     match f {
-        Found::Once(a) | Found::Again(a) => msi_at(c, a),
+        Found::Once(a) | Found::Again(a, _) => msi_at(c, a),
         Found::Nowhere => MsiShape {
             at: 0,
             capable: 0,
@@ -84,7 +84,7 @@ fn msix_found(c: &[u8; 256], f: Found) -> MsixShape
     ensures { result ≡ msix_found c.now f }
 {
     match f {
-        Found::Once(a) | Found::Again(a) => msix_at(c, a),
+        Found::Once(a) | Found::Again(a, _) => msix_at(c, a),
         Found::Nowhere => MsixShape {
             at: 0,
             vectors: 0,

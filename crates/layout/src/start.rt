@@ -1,5 +1,5 @@
 // The checks of a start, in document 01's order.
-ghost use Rattle.std.specs.Prelude.{◌≡◌, ◌+◌, ◌^◌, ◌≤◌, ◌<◌, IfOk};
+ghost use Rattle.std.specs.Prelude.{◌≡◌, ◌+◌, ◌^◌, ◌≤◌, ◌<◌};
 ghost use Rattle.model.specs.Refusals.{refusal_in};
 ghost use Rattle.model.specs.Shape.{form_of, shape_of, table_bytes, pending_bytes};
 ghost use Rattle.model.specs.Start.{given, bad_header, outside, bad_regions, bad_events, bad_buffers, start_refusal};
@@ -14,9 +14,10 @@ use crate::structure::bad_structures;
 use model::refusal::Refusal;
 use model::{Form, Region, Shape};
 
-// What the configuration of a start that is not refused says: its shape, and the form of its MSI.
+// Why a start is refused, if it is; and what its configuration says in either case: its shape, and the form of its MSI.
 #[derive(Clone, Copy)]
 pub struct Checked {
+    pub verdict: Result<(), Refusal>,
     pub shape: Shape,
     pub form: Form,
 }
@@ -47,7 +48,7 @@ fn bad_header(c: &[u8; 256]) -> bool
 fn listed_twice(l: Listing) -> bool
     ensures { result ≡ listed_twice l }
 {
-    matches!(l.msi, Found::Again(_)) || matches!(l.msix, Found::Again(_))
+    matches!(l.msi, Found::Again(..)) || matches!(l.msix, Found::Again(..))
 }
 
 // n bytes in a BAR: a BIR above 5, or past the BAR's size
@@ -138,15 +139,19 @@ pub fn check_start<'a>(
     requester: u16,
     table: usize,
     pending: usize,
-) -> Result<Checked, Refusal>
-    ensures refusal { refusal_in result ≡ start_refusal (given config.now sizes.now events requester table pending) }
-    ensures checked { IfOk result (λ r. (r.shape ≡ shape_of config.now) × Bounded r.shape × (r.form ≡ form_of r.shape)) }
+) -> Checked
+    ensures refusal { refusal_in result.verdict ≡ start_refusal (given config.now sizes.now events requester table pending) }
+    ensures checked { (result.shape ≡ shape_of config.now) × Bounded result.shape × (result.form ≡ form_of result.shape) }
 {
     let listing = read_list(config);
     let s = shape(config, listing);
     let f = form(s);
-    refuse(
+    let verdict = refuse(
         config, sizes, events, requester, table, pending, listing, s, f,
-    )?;
-    Ok(Checked { shape: s, form: f })
+    );
+    Checked {
+        verdict,
+        shape: s,
+        form: f,
+    }
 }

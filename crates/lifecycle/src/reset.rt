@@ -13,6 +13,14 @@ use model::refusal::Refusal;
 use model::{Answer, Card, Function, Profile};
 use wire::{Owed, Wiring};
 
+// What a reset sends: the wire's packet. Vectors that wait send nothing. A function of its own, so that what it writes is proved of it alone.
+fn send(out: &mut [u8], owed: Owed, f: &Function, pin: u8) -> usize
+    requires { (pin ≤ 4) × (size_of owed ≤ length out.old) }
+    ensures { Wrote (bytes_owed owed f.now.requester pin) out.old result out.new }
+{
+    wire::put_owed(out, owed, f.requester, pin)
+}
+
 // Sends Deassert if the wire of a sound card is active, then gives the state of a start with the same shape.
 pub fn reset_core(
     card: Card,
@@ -29,7 +37,7 @@ pub fn reset_core(
     if out.len() < wire::owed_size(wired.owed) {
         return refuse(card, Refusal::Room);
     }
-    let count = wire::put_owed(out, wired.owed, card.function.requester, w.pin);
+    let count = send(out, wired.owed, &card.function, w.pin);
     let f = card.function;
     let function = started(
         f.config,

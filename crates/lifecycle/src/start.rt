@@ -42,17 +42,17 @@ pub fn start(
         ≡ start_of (endpoint_of zero_function table.old pending.old)
         (given config sizes events requester (length table.old) (length pending.old)) }
 {
-    let checked = match layout::start::check_start(
+    let checked = layout::start::check_start(
         &config,
         &sizes,
         events,
         requester,
         table.len(),
         pending.len(),
-    ) {
-        Ok(checked) => checked,
-        Err(why) => return refuse(zero_card(), why),
-    };
+    );
+    if let Err(why) = checked.verdict {
+        return refuse(zero_card(), why);
+    }
     let s = checked.shape;
     let form = checked.form;
     let function = started(config, sizes, events, requester, s, form, table, pending);

@@ -1,6 +1,6 @@
 -- The library's numbers of bytes, and bytes of a number. Assumes nothing.
 use mathlib.Core.Path.{◌≡◌, refl, sym, ap, ◌∙◌}
-use mathlib.Core.List.{List}
+use mathlib.Core.List.{List, [], ◌∷◌}
 use Prim.Native.Nat.{ℕ, ◌+◌, ◌*◌, ◌<◌}
 use native.Mathlib.Nat.{zero-add, add-zero}
 use native.Mathlib.Omega.{arith}
@@ -45,6 +45,19 @@ module _ (s : List ℕ) (at : ℕ) where
       let l = part at 2 s in
       let e : from_be_bytes w16 l ≡ byte l 0 * 256 + byte l 1 = refl in
       e ∙ omega (arith, first-part 2 (omega arith), byte-part s at 2 1 (omega arith))
+
+  -- eight bytes that are read one by one
+  abbrev eight : List ℕ
+  eight =
+      byte s at ∷ byte s (at + 1) ∷ byte s (at + 2) ∷ byte s (at + 3) ∷ byte s (at + 4) ∷ byte s (at + 5) ∷ byte s (at + 6) ∷ byte s (at + 7) ∷ []
+
+  pub each-word64 : from_le_bytes w64 eight ≡ word64 s at
+  each-word64 =
+      let p : (k : ℕ) → k < 8 → byte (part at 8 s) k ≡ byte s (at + k) = byte-part s at 8 in
+      let e : from_le_bytes w64 eight ≡ from_le_bytes w64 (part at 8 s) =
+      omega
+      (arith, first-part 8 (omega arith), p 1 (omega arith), p 2 (omega arith), p 3 (omega arith), p 4 (omega arith), p 5 (omega arith), p 6 (omega arith), p 7 (omega arith)) in
+      e ∙ le-word64
 
   pub be-high32 : from_be_bytes w32 (part at 4 s) ≡ high32 s at
   be-high32 =

@@ -15,6 +15,9 @@ use Rattle.words.proofs.ListLaws.{same_true, same_refl}
 
 -- ---- a number of elements, and at most all
 
+pub clips : (k : ℕ) (l : List ℕ) (n : ℕ) → n ≡ min k (length l) → Clips k l n
+clips k l n e = (e, sym (length-take-le n l (omega arith)))
+
 pub clipped_part : (n k : ℕ) (l : List ℕ) → n ≡ min k (length l) → take n l ≡ take k l
 clipped_part n k l e =
     by_test (leb k (length l))

@@ -1,3 +1,4 @@
+use Rattle.std.proofs.Common.{rules}
 use Rattle.call_log.proofs.PlayerLaws.{scanned_more, scanned_wrong, scanned_whole}
 use Rattle.call_log.proofs.advance.after_scan.Goals as goal
 
@@ -8,4 +9,4 @@ pub returns-in-Whole : goal.returns-in-Whole
 returns-in-Whole c = scanned_whole _ _ c.in-Whole.is c.counted.ensures
 
 pub returns-in-Wrong : goal.returns-in-Wrong
-returns-in-Wrong c = scanned_wrong _ c.in-Wrong.is
+returns-in-Wrong c = scanned_wrong c.args.s _ c.in-Wrong.is (search rules)

@@ -1,21 +1,21 @@
 -- One case for each mechanism. Assumes nothing.
 use mathlib.Core.Path.{sym, ◌∙◌}
 use Rattle.std.proofs.Common.{rules}
-use Rattle.model.specs.World.{endpoint_of}
+use Rattle.model.specs.World.{endpoint_of, function_of}
 use Rattle.endpoint.proofs.SoundParts.{pin-idle, msi-idle, msix-idle, msix_off}
 use Rattle.endpoint.proofs.sound.nothing_owed.Goals as goal
 
 pub returns-in-Pin : goal.returns-in-Pin
-returns-in-Pin c = pin-idle _ (endpoint_of c.args.f.now c.args.table.now c.args.pending.now) (c.requires.0.mode _ ∙ c.in-Pin.is)
+returns-in-Pin c = λ z e q l. pin-idle _ (endpoint_of (function_of _ z e q l _) c.args.table.now c.args.pending.now) (c.requires.0.mode _ ∙ c.in-Pin.is)
 
 pub msi_owed-requires : goal.msi_owed-requires
 msi_owed-requires c = let k = c.requires.0 in (k.fits, k.form, λ t. k.mode t ∙ c.in-Msi.is)
 
 pub returns-in-Msi : goal.returns-in-Msi
 returns-in-Msi c =
-    let f = c.args.f.now in
-    msi-idle _ (endpoint_of f c.args.table.now c.args.pending.now) _ (c.requires.0.mode _ ∙ c.in-Msi.is)
-    (c.msi_owed.ensures _ _) (search rules)
+    λ z e q l.
+    msi-idle _ (endpoint_of (function_of _ z e q l _) c.args.table.now c.args.pending.now) _ (c.requires.0.mode _ ∙ c.in-Msi.is)
+    (c.msi_owed.ensures z e q l _ _) (search rules)
 
 pub msix_enabled-requires : goal.msix_enabled-requires
 msix_enabled-requires c = let k = c.requires.0 in (k.fits, λ t. k.mode t ∙ c.in-Msix.is)
@@ -25,10 +25,12 @@ none_owed-requires c = c.requires.1
 
 pub returns-then-msix_enabled : goal.returns-then-msix_enabled
 returns-then-msix_enabled c =
-    msix-idle _ (endpoint_of c.args.f.now c.args.table.now c.args.pending.now) _ (c.requires.0.mode _ ∙ c.in-Msix.is)
+    λ z e q l.
+    msix-idle _ (endpoint_of (function_of _ z e q l _) c.args.table.now c.args.pending.now) _ (c.requires.0.mode _ ∙ c.in-Msix.is)
     (sym (c.msix_enabled.ensures _) ∙ c.if-msix_enabled.true) c.requires.2 c.none_owed.ensures
 
 pub returns-else-msix_enabled : goal.returns-else-msix_enabled
 returns-else-msix_enabled c =
-    msix_off _ (endpoint_of c.args.f.now c.args.table.now c.args.pending.now) (c.requires.0.mode _ ∙ c.in-Msix.is)
+    λ z e q l.
+    msix_off _ (endpoint_of (function_of _ z e q l _) c.args.table.now c.args.pending.now) (c.requires.0.mode _ ∙ c.in-Msix.is)
     (sym (c.msix_enabled.ensures _) ∙ c.if-msix_enabled.false)

@@ -9,4 +9,4 @@ pub returns : goal.returns
 returns c =
     λ t p.
     c.msi_size.ensures _ _ _
-    ∙ sym (ap length (msi-bytes _ (endpoint_of _ t p) _ _ (c.msi_owed-owed.ensures t p) (c.msi_base-base.ensures t).0))
+    ∙ sym (ap length (msi-bytes _ (endpoint_of _ t p) _ _ (c.msi_owed-owed.ensures _ _ _ _ t p) (c.msi_base-base.ensures t).0))

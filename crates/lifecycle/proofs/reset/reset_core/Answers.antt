@@ -9,8 +9,8 @@ returns-then-out-owed_size c =
     reset-short _ _ _ _ c.args.k _ c.requires.1 _ c.set_wire-wired.ensures _ _ c.owed_size.ensures c.if-out-owed_size.true
     c.refuse.ensures
 
-pub put_owed-count-requires : goal.put_owed-count-requires
-put_owed-count-requires c =
+pub send-count-requires : goal.send-count-requires
+send-count-requires c =
     (wires-pin c.requires.0 _ c.requires.1, omega (arith, c.if-out-owed_size.false, c.owed_size.ensures))
 
 pub started-function-requires : goal.started-function-requires
@@ -21,4 +21,4 @@ started-function-requires c =
 pub returns : goal.returns
 returns c =
     reset-done _ _ _ _ c.args.k _ c.requires.1 _ c.set_wire-wired.ensures _ _ _ _ _ _ _ c.owed_size.ensures c.if-out-owed_size.false
-    c.put_owed-count.ensures c.started-function.ensures c.accepted.ensures
+    c.send-count.ensures c.started-function.ensures c.accepted.ensures

@@ -1,9 +1,10 @@
--- The lowest set bit, and the word without it. Assumes nothing.
+-- The lowest set bit, by its function or by trailing zeros, and the word without it. Assumes nothing.
 use mathlib.Core.Path.{ap}
 use native.Mathlib.Omega.{arith}
 use lib.ListN.{length}
 use borrow.Author.Rules.{rules}
 use Rattle.words.proofs.OnesLaws.{no_set_bits}
+use Rattle.words.proofs.LowestLaws.{lowest_trailing}
 use Rattle.words.proofs.SetBits.{turn}
 use Rattle.release.proofs.bits.SetBitsIterator.next.Goals as goal
 
@@ -13,7 +14,9 @@ returns-then-self-eq0-clause-steps c =
 
 pub returns-clause-steps : goal.returns-clause-steps
 returns-clause-steps c =
-    (turn 64 c.args.self.now.0 c.lowest-v.result (search rules) c.lowest-v.ensures).rest
+    let w = c.args.self.now.0 in
+    let trailing = lowest_trailing 64 w (omega (arith, c.if-self-eq0.false)) (search rules) in
+    (turn 64 w _ (search rules) (search (rules, trailing))).rest
 
 pub returns-clause-goes : goal.returns-clause-goes
 returns-clause-goes c =
