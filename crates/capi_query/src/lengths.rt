@@ -1,6 +1,8 @@
 // The vectors and the lengths of table and pending array, of a configuration and of an image.
-ghost use Rattle.std.specs.Prelude.{◌≡◌};
+ghost use Rattle.std.specs.Prelude.{◌≡◌, ◌≤◌, length};
 ghost use Rattle.model.specs.Shape.{shape_of};
+ghost use Rattle.model.specs.Sound.{shape};
+ghost use Rattle.model.specs.Image.{world_in};
 ghost use Rattle.capi_query.specs.Lengths.{lengths, told, told_of, config_lengths, image_lengths};
 
 use image::format::Image;
@@ -34,8 +36,17 @@ fn config_lengths(config: &[u8]) -> Result<Lengths, Refusal>
     Ok(lengths_of(config))
 }
 
-// The checks of a restore, but for that of the lent buffers. Not by `snapshot::held::read`: a card within a `Result` is zeroed first, for which
-// this archive would need `memset` from outside.
+// Of the card in an image, which is read again here: told beside the checks, the lengths take 272 bytes of stack more.
+fn held_lengths(image: &[u8]) -> Lengths
+    requires { 294 ≤ length image.now }
+    ensures { result ≡ told_of (shape (world_in image.now).endpoint) }
+{
+    let held = held_card(image);
+    lengths_of(&held.function.config)
+}
+
+// The checks of a restore, but for that of the lent buffers, written out: a `Result` with a card, as `snapshot::held::read` has, needs `memset`,
+// and with one function for this and a restore two edits of this crate would have no place here.
 fn image_lengths(image: &[u8]) -> Result<Lengths, Refusal>
     ensures { told result ≡ image_lengths image.now }
 {
@@ -53,7 +64,7 @@ fn image_lengths(image: &[u8]) -> Result<Lengths, Refusal>
     if !is_saved(image, held, n) {
         return Err(Refusal::Image);
     }
-    Ok(lengths_of(&held.function.config))
+    Ok(held_lengths(image))
 }
 
 // Writes what is told, zeros beside a refusal.

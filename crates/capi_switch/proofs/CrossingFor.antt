@@ -1,11 +1,15 @@
 -- From the code's parts to what crosses, one law for each way out. Assumes nothing.
 use mathlib.Core.Path.{◌≡◌, refl, sym, ap, ◌∙◌}
 use mathlib.Core.Bool.{Bool, true, false, not, ◌&&◌, and_assoc, and-true, true≢false, false≢true}
-use mathlib.Core.List.{List, [], ◌++◌, append-nil}
-use Prim.Native.Nat.{ℕ, ◌≤◌, ◌<◌}
+use mathlib.Core.List.{List, [], ◌∷◌, ◌++◌, append-nil}
+use Prim.Native.Nat.{ℕ, suc, ◌+◌, ◌-◌, ◌≤◌, ◌<◌}
+use native.Mathlib.Nat.{zero-add}
 use native.Mathlib.Omega.{arith}
 use lib.Dec.{ltb, eqb}
-use lib.ListN.{length, drop_of_length-le}
+use lib.ListN.{length, drop, length-drop, drop_of_length-le}
+use lib.Seq.{get_or-drop}
+use Rattle.std.specs.List.{list_all}
+use Rattle.std.proofs.lemmas.List.Folds.{list_all_at}
 use borrow.Author.Tests.{eq-eqb, ne_eqb, eqb-true, lt-ltb, le-ltb}
 use Rattle.words.specs.Lists.{count, all}
 use Rattle.words.specs.Bytes.{byte, bytes_of}
@@ -31,6 +35,35 @@ unfolding ports_clean all count
 eight-clean l =
     let low : ℕ → Bool = λ k. ltb (byte l k) 16 in
     eight_joined ◌&&◌ true and_assoc and-true (low 2) (low 3) (low 4) (low 5) (low 6) (low 7) (low 8) (low 9)
+
+-- each of the elements passes a test: counted by their places, from i on
+all_row : (p f : ℕ → Bool) (i : ℕ) (m : List ℕ) → ((k : ℕ) → k < length m → f (i + k) ≡ p (byte m k)) → list_all p m ≡ all f (count i (length m))
+unfolding all count
+all_row p f i [] h = refl
+all_row p f i (x ∷ m) h =
+    let first : p x ≡ f i = sym (h 0 (omega arith)) ∙ ap f (omega arith) in
+    let rest : list_all p m ≡ all f (count (suc i) (length m)) = all_row p f (suc i) m (λ k j. ap f (omega arith) ∙ h (suc k) (omega arith)) in
+    rw (first, rest)
+
+pub rest-clean : (l : List ℕ) → length l ≡ 10 → list_all (λ w. ltb w 16) (drop 2 l) ≡ ports_clean l
+unfolding ports_clean
+rest-clean l e =
+    let n : length (drop 2 l) ≡ 8 = length-drop 2 l ∙ omega arith in
+    all_row (λ w. ltb w 16) (λ k. ltb (byte l (2 + k)) 16) 0 (drop 2 l) (λ k h. rw (zero-add k, get_or-drop 2 l k 0)) ∙ rw n
+
+-- clean: each port has four wires at most
+pub clean_ports : (l : List ℕ) → byte l 2 < 16 → byte l 3 < 16 → byte l 4 < 16 → byte l 5 < 16 → byte l 6 < 16 → byte l 7 < 16 → byte l 8 < 16 → byte l 9 < 16
+    → true ≡ ports_clean l
+clean_ports l a b c d e f g h =
+    let low : (k : ℕ) → byte l k < 16 → ltb (byte l k) 16 ≡ true = λ k. lt-ltb (byte l k) 16 in
+    rw (← eight-clean l, low 2 a, low 3 b, low 4 c, low 5 d, low 6 e, low 7 f, low 8 g, low 9 h) refl
+
+-- not clean: some port has more
+pub wide_port : (l : List ℕ) → length l ≡ 10 → (k : ℕ) → 2 ≤ k → k < 10 → 16 ≤ byte l k → false ≡ ports_clean l
+wide_port l e k a b h =
+    let here : byte (drop 2 l) (k - 2) ≡ byte l k = get_or-drop 2 l (k - 2) 0 ∙ ap (byte l) (omega arith) in
+    let wide : ltb (byte (drop 2 l) (k - 2)) 16 ≡ false = rw here (le-ltb (byte l k) 16 h) in
+    sym (list_all_at (λ w. ltb w 16) (drop 2 l) (k - 2) 0 (omega (arith, length-drop 2 l)) wide) ∙ rest-clean l e
 
 -- the number of an answer that is no refusal
 pub unrefused : (a : Answer) → ((n : ℕ) → a ≡ Refused n → ⊥) → 0 ≡ refusal_of a

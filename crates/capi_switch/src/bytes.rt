@@ -10,19 +10,13 @@ use std::array;
 use switch::state::wires;
 use switch::{Port, Switch};
 
-// Whether no port has more than four wires. Port by port: the edit `port_byte_of_five_wires` is wrong in one of them, which a closure over all cannot be.
+// Whether no port has more than four wires. One limit a port, so that the edit `port_byte_of_five_wires` can be wrong in one; a closure has one for all.
+#[tactic(auto, using(crate::proofs::CrossingFor::wide_port))]
 fn ports_clean(b: &[u8]) -> bool
     requires { length b.now ≡ 10 }
     ensures { result ≡ ports_clean b.now }
 {
-    (b[2] < 16)
-        & (b[3] < 16)
-        & (b[4] < 16)
-        & (b[5] < 16)
-        & (b[6] < 16)
-        & (b[7] < 16)
-        & (b[8] < 16)
-        & (b[9] < 16)
+    matches!(b, [_, _, ..16, ..16, ..16, ..16, ..16, ..16, ..16, ..16])
 }
 
 // Whether these are the bytes of a switch.

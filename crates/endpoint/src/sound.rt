@@ -9,7 +9,7 @@ ghost use Rattle.model.specs.Sound.{given_of, waits_below, is_empty, sound_endpo
 ghost use Rattle.registers.specs.Bounds.{MsiBounds};
 ghost use Rattle.vectors.specs.Given.{Profiled};
 ghost use Rattle.release.specs.Owed.{Lent};
-ghost use Rattle.endpoint.specs.Parts.{each_of, Checked};
+ghost use Rattle.endpoint.specs.Parts.{each_of, profile_or_shape, Checked};
 
 use model::{Function, Mode, Profile, Shape};
 
@@ -72,12 +72,22 @@ fn is_clean(f: &Function, k: Profile, table: &[u8], pending: &[u8]) -> bool
     nothing_owed(f, k, table, pending)
 }
 
+// Of a sound function its profile, of any other its shape.
+fn profile_or_shape(sound: bool, k: Profile) -> Result<Profile, Shape>
+    ensures { result ≡ profile_or_shape sound k }
+{
+    if sound {
+        return Ok(k);
+    }
+    Err(k.shape)
+}
+
 // What the configuration of a sound function with these lent buffers says, whatever its line is and the wire aside; of one that is not sound the shape.
 pub fn check(f: &Function, table: &[u8], pending: &[u8]) -> Result<Profile, Shape>
     ensures { (line : Bool)
         → Checked (function_of f.now.config f.now.sizes f.now.events f.now.requester line f.now.waiting) table.now pending.now result }
 {
-    let told = layout::start::check_start(
+    let start = layout::start::check_start(
         &f.config,
         &f.sizes,
         f.events,
@@ -85,18 +95,15 @@ pub fn check(f: &Function, table: &[u8], pending: &[u8]) -> Result<Profile, Shap
         table.len(),
         pending.len(),
     );
-    let shape = told.shape;
-    let Ok(()) = told.verdict else {
+    let shape = start.shape;
+    let Ok(()) = start.verdict else {
         return Err(shape);
     };
     let mode = vectors::mode::mode(&f.config, shape);
     let profile = Profile {
         shape,
-        form: told.form,
+        form: start.form,
         mode,
     };
-    if is_clean(f, profile, table, pending) {
-        return Ok(profile);
-    }
-    Err(shape)
+    profile_or_shape(is_clean(f, profile, table, pending), profile)
 }

@@ -1,5 +1,8 @@
 -- The checks of a restore in their order, one law for each refusal; then told of the card. Assumes nothing.
+use mathlib.Core.Path.{refl, ap, ◌∙◌}
 use Rattle.std.proofs.lemmas.Bool.{not_from_false, not_from_true}
+use Rattle.model.specs.declared.Card.{Card}
+use Rattle.model.specs.Shape.{shape_of, table_bytes}
 use Rattle.model.specs.declared.refusal.Refusal.TheVariants.{Mark, Version, Image}
 use Rattle.snapshot.proofs.RestoreFor.{no_image, no_mark, other_version, is-image, not_saved, passed}
 use Rattle.capi_query.proofs.LengthsFor.{image_refused, image-told}
@@ -27,8 +30,12 @@ returns-then-not-is_saved c =
     let e = is-image _ c.if-image-lt-TABLE.false _ c.is_marked.ensures (not_from_true _ c.if-not-is_marked.false) _ c.version.ensures c.if-version-ne-VERSION.false in
     image_refused _ Image (not_saved _ c.if-image-lt-TABLE.false e _ c.is_saved.ensures (not_from_false _ c.if-not-is_saved.true))
 
+pub held_lengths-requires : goal.held_lengths-requires
+held_lengths-requires c = c.if-image-lt-TABLE.false
+
 pub returns : goal.returns
 returns c =
-    let e = is-image _ c.if-image-lt-TABLE.false _ c.is_marked.ensures (not_from_true _ c.if-not-is_marked.false) _ c.version.ensures c.if-version-ne-VERSION.false in
-    image-told _ _ _ (passed _ c.if-image-lt-TABLE.false e _ c.is_saved.ensures (not_from_true _ c.if-not-is_saved.false) _ _ c.held_card-held.ensures c.table_length-n.ensures.0)
-    _ c.lengths_of.ensures
+    let long = c.if-image-lt-TABLE.false in
+    let e = is-image _ long _ c.is_marked.ensures (not_from_true _ c.if-not-is_marked.false) _ c.version.ensures c.if-version-ne-VERSION.false in
+    let n = c.table_length-n.ensures.0 ∙ ap (λ (k : Card). table_bytes (shape_of k.function.config)) c.held_card-held.ensures in
+    image-told _ _ _ (passed _ long e _ c.is_saved.ensures (not_from_true _ c.if-not-is_saved.false) _ _ refl n) _ c.held_lengths.ensures
